@@ -1,0 +1,349 @@
+// The arithmetic engine (H.265 9.3.4.3): its state, and the entry points over a payload and a state.
+// Each takes anything: what document 01 does not accept is answered by its number, and the caller's state stands.
+use crate::fetch::fetch;
+use crate::fetch::moved;
+use crate::payload;
+use crate::places::BitPlace;
+use crate::places::aligned;
+use crate::places::first_bit;
+use crate::steps::Interval;
+use crate::steps::Taken;
+use tables::decision_table;
+ghost use mathlib.Core.Path.{_≡_};
+ghost use Prim.Native.Nat.{_+_, _≤_, _<_};
+ghost use lib.ListN.{length};
+ghost use Rattle.cabac.specs.Bits.{ends};
+ghost use Rattle.cabac.specs.Engine.{place, alignedByte};
+ghost use Rattle.cabac.specs.Interval.{opened, settled, pastMost, drawnAt};
+ghost use Rattle.cabac.specs.Numbers.{_orElse_, payloadRefusal, stateRefusal, contextRefusal, countRefusal, endedRefusal};
+ghost use Rattle.cabac.specs.Entries.{stateSays, decisionSays, binsSay};
+ghost use Rattle.cabac.specs.Entries as entries;
+
+pub struct Engine {
+    pub range: u32,
+    pub offset: u32,
+    pub at: BitPlace,
+    pub ended: bool,
+    pub past: bool,
+}
+
+// A state, or the number of the refusal.
+pub enum State {
+    Ready(Engine),
+    Refused(u32),
+}
+
+// A bin with the packed context and the state behind it, or the number of the refusal.
+pub enum Decision {
+    Bin(bool, u8, Engine),
+    Refused(u32),
+}
+
+// Bins as a number with the state behind them, or the number of the refusal.
+pub enum Bins {
+    Read(u32, Engine),
+    Refused(u32),
+}
+
+fn payload_refusal(bytes: &[u8]) -> u32
+    ensures { λ r. ⌜ r ≡ payloadRefusal (now (bytes .entry)) ⌝ }
+{
+    if bytes.len() < 2 {
+        return 1;
+    }
+    if 16777216 < bytes.len() {
+        return 2;
+    }
+    0
+}
+
+fn state_refusal(bytes: &[u8], e: Engine) -> u32
+    requires { ⌜ length (now bytes) ≤ 16777216 ⌝ }
+    ensures { λ r. ⌜ r ≡ stateRefusal (now (bytes .entry)) e ⌝ }
+{
+    let at = e.at.0;
+    if 8 * bytes.len() < at {
+        return 3;
+    }
+    if e.ended {
+        return 0;
+    }
+    if e.range < 256 {
+        return 3;
+    }
+    if 510 < e.range {
+        return 3;
+    }
+    if e.range <= e.offset {
+        return 3;
+    }
+    0
+}
+
+// 1, 2, 3
+fn refusal(bytes: &[u8], e: Engine) -> u32
+    ensures { λ r. ⌜ r ≡ payloadRefusal (now (bytes .entry)) orElse stateRefusal (now (bytes .entry)) e ⌝ }
+{
+    let n = payload_refusal(bytes);
+    if n != 0 {
+        return n;
+    }
+    state_refusal(bytes, e)
+}
+
+// 1, 2, 4, 3
+fn count_refusal(bytes: &[u8], e: Engine, count: u32) -> u32
+    ensures { λ r. ⌜ r ≡ payloadRefusal (now (bytes .entry)) orElse countRefusal count orElse stateRefusal (now (bytes .entry)) e ⌝ }
+{
+    let n = payload_refusal(bytes);
+    if n != 0 {
+        return n;
+    }
+    if 32 < count {
+        return 4;
+    }
+    state_refusal(bytes, e)
+}
+
+// A block reader works on range, offset and place alone.
+pub fn open(e: Engine) -> Interval
+    ensures { λ r. ⌜ r ≡ opened e ⌝ }
+{
+    let at = e.at;
+    Interval {
+        range: e.range,
+        offset: e.offset,
+        at,
+    }
+}
+
+// What the caller sees of it: a place past the end is cut to the end, and sets the mark.
+pub fn settle(bytes: &[u8], e: Engine, x: Interval) -> Engine
+    requires { ⌜ length (now bytes) ≤ 16777216 ⌝ }
+    ensures { λ r. ⌜ r ≡ settled (now (bytes .entry)) e x ⌝ }
+{
+    let at = x.at;
+    let end = 8 * bytes.len();
+    if end < at.0 {
+        return Engine {
+            range: x.range,
+            offset: x.offset,
+            at: BitPlace(end),
+            ended: e.ended,
+            past: true,
+        };
+    }
+    Engine {
+        range: x.range,
+        offset: x.offset,
+        at,
+        ended: e.ended,
+        past: e.past,
+    }
+}
+
+fn bins_of(bytes: &[u8], e: Engine, t: Taken) -> Bins
+    requires { ⌜ length (now bytes) ≤ 16777216 ⌝ }
+    ensures { λ r. ⌜ binsSay r ≡ drawnAt (now (bytes .entry)) e t ⌝ }
+{
+    let next = t.next;
+    let state = settle(bytes, e, next);
+    Bins::Read(t.value, state)
+}
+
+// Start: range 510, offset the first nine bits.
+pub fn start(bytes: &[u8]) -> State
+    ensures { λ r. ⌜ stateSays r ≡ entries.start (now (bytes .entry)) ⌝ }
+{
+    let n = payload_refusal(bytes);
+    if n != 0 {
+        return State::Refused(n);
+    }
+    let e = Engine {
+        range: 510,
+        offset: 0,
+        at: BitPlace(0),
+        ended: false,
+        past: false,
+    };
+    started_at(bytes, e)
+}
+
+// Nine bits at the state's place are its offset; 510 and 511 are none.
+fn started_at(bytes: &[u8], e: Engine) -> State
+    requires { ⌜ (place e ≤ ends (now bytes)) × (length (now bytes) ≤ 16777216) ⌝ }
+    ensures { λ r. ⌜ stateSays r ≡ entries.startedAt (now (bytes .entry)) e ⌝ }
+{
+    let at = e.at;
+    let offset = fetch(bytes, at, 9);
+    let next = moved(bytes, at, 9);
+    if 510 <= offset {
+        return State::Refused(5);
+    }
+    let x = Interval {
+        range: 510,
+        offset,
+        at: next,
+    };
+    let state = settle(bytes, e, x);
+    State::Ready(state)
+}
+
+// One decision on a packed context.
+pub fn decode_bin(bytes: &[u8], e: Engine, ctx: u8) -> Decision
+    ensures { λ r. ⌜ decisionSays r ≡ entries.decision (now (bytes .entry)) e ctx ⌝ }
+{
+    let n = refusal(bytes, e);
+    if n != 0 {
+        return Decision::Refused(n);
+    }
+    if 127 < ctx {
+        return Decision::Refused(3);
+    }
+    if e.ended {
+        return Decision::Refused(6);
+    }
+    let table = decision_table();
+    let mut c = ctx;
+    let t = payload::decide(&table, &mut c, bytes, open(e));
+    let next = t.next;
+    let state = settle(bytes, e, next);
+    Decision::Bin(t.value == 1, c, state)
+}
+
+// One bypass bin.
+pub fn decode_bypass(bytes: &[u8], e: Engine) -> Bins
+    ensures { λ r. ⌜ binsSay r ≡ entries.bypassBits (now (bytes .entry)) e 1 ⌝ }
+{
+    let n = refusal(bytes, e);
+    if n != 0 {
+        return Bins::Refused(n);
+    }
+    if e.ended {
+        return Bins::Refused(6);
+    }
+    let t = payload::bypass_one(bytes, open(e));
+    bins_of(bytes, e, t)
+}
+
+// Bypass bins, 0 to 32 of them.
+pub fn decode_bypass_bits(bytes: &[u8], e: Engine, count: u32) -> Bins
+    ensures { λ r. ⌜ binsSay r ≡ entries.bypassBits (now (bytes .entry)) e count ⌝ }
+{
+    let n = count_refusal(bytes, e, count);
+    if n != 0 {
+        return Bins::Refused(n);
+    }
+    if e.ended {
+        return Bins::Refused(6);
+    }
+    let t = payload::bypass_bits(bytes, open(e), count);
+    bins_of(bytes, e, t)
+}
+
+// Terminate: 1 ends the engine, with the range less 2 and nothing drawn.
+pub fn decode_terminate(bytes: &[u8], e: Engine) -> Bins
+    ensures { λ r. ⌜ binsSay r ≡ entries.terminate (now (bytes .entry)) e ⌝ }
+{
+    let n = refusal(bytes, e);
+    if n != 0 {
+        return Bins::Refused(n);
+    }
+    if e.ended {
+        return Bins::Refused(6);
+    }
+    let range = e.range - 2;
+    let offset = e.offset;
+    let at = e.at;
+    if range <= offset {
+        return Bins::Read(
+            1,
+            Engine {
+                range,
+                offset,
+                at,
+                ended: true,
+                past: e.past,
+            },
+        );
+    }
+    let next = payload::renorm(bytes, open(e), range, offset);
+    let state = settle(bytes, e, next);
+    Bins::Read(0, state)
+}
+
+// Byte alignment: the position rounded up to a whole byte.
+pub fn byte_align(bytes: &[u8], e: Engine) -> State
+    ensures { λ r. ⌜ stateSays r ≡ entries.byteAlign (now (bytes .entry)) e ⌝ }
+{
+    let n = refusal(bytes, e);
+    if n != 0 {
+        return State::Refused(n);
+    }
+    let at = e.at;
+    let byte = aligned(at);
+    let place = first_bit(byte);
+    State::Ready(Engine {
+        range: e.range,
+        offset: e.offset,
+        at: place,
+        ended: e.ended,
+        past: e.past,
+    })
+}
+
+// The rest of the payload behind byte alignment, as that part of the caller's bytes; empty where byte alignment refuses.
+pub fn rest(bytes: &[u8], e: Engine) -> &[u8]
+    ensures { λ r. ⌜ now r ≡ entries.restOf (now (bytes .entry)) e ⌝ }
+{
+    let n = refusal(bytes, e);
+    if n != 0 {
+        let end = bytes.len();
+        return &bytes[end..];
+    }
+    let at = e.at;
+    let byte = aligned(at);
+    let first = byte.0;
+    &bytes[first..]
+}
+
+// Restart: align, and start there. The past-the-end mark is kept, the ended mark cleared.
+pub fn restart(bytes: &[u8], e: Engine) -> State
+    ensures { λ r. ⌜ stateSays r ≡ entries.restart (now (bytes .entry)) e ⌝ }
+{
+    let n = refusal(bytes, e);
+    if n != 0 {
+        return State::Refused(n);
+    }
+    let at = e.at;
+    let byte = aligned(at);
+    let place = first_bit(byte);
+    let fresh = Engine {
+        range: 510,
+        offset: 0,
+        at: place,
+        ended: false,
+        past: e.past,
+    };
+    started_at(bytes, fresh)
+}
+
+// Raw bits, 0 to 32 of them, in any phase: range and offset stay.
+pub fn read_bits(bytes: &[u8], e: Engine, count: u32) -> Bins
+    ensures { λ r. ⌜ binsSay r ≡ entries.raw (now (bytes .entry)) e count ⌝ }
+{
+    let n = count_refusal(bytes, e, count);
+    if n != 0 {
+        return Bins::Refused(n);
+    }
+    let at = e.at;
+    let value = fetch(bytes, at, count);
+    let next = moved(bytes, at, count);
+    let x = Interval {
+        range: e.range,
+        offset: e.offset,
+        at: next,
+    };
+    let state = settle(bytes, e, x);
+    Bins::Read(value, state)
+}

@@ -1,0 +1,11 @@
+pub mod Layout
+pub mod Scan
+pub mod Wanted
+pub mod Head
+pub mod Remainder
+pub mod SubBlock
+pub mod Residual
+pub mod Refusal
+pub mod Numbers
+pub mod Entries
+pub mod Cases

@@ -1,0 +1,5 @@
+pub mod Tables
+pub mod Table
+pub mod Decisions
+pub mod Bounds
+pub mod Rule
