@@ -1,12 +1,8 @@
--- Contexts: their number, and what an initial value makes of one (H.265 9.3.2.2).
+-- Contexts: what an initial value makes of one (H.265 9.3.2.2).
 use Prim.Native.Nat.{ℕ, zero, suc, _+_, _-_, _*_, _/_, _%_, min, max}
 use mathlib.Core.List.{List, map}
 use mathlib.Core.Bool.{cond}
 use lib.Dec.{leb}
-
--- how many contexts, and so how many initial values, are lent
-abbrev pub contextCount : ℕ
-contextCount = 120
 
 -- m·q, m = 5·(v div 16) − 45, raised by 16·144 to be a natural number: it is never under −45·51
 unfoldable pub slopeRaised : ℕ → ℕ → ℕ

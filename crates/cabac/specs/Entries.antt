@@ -4,15 +4,18 @@ use mathlib.Core.List.{List, []}
 use mathlib.Core.Bool.{Bool, cond}
 use lib.ListN.{length, drop, replicate}
 use lib.Dec.{eqb}
-use Rattle.cabac.specs.declared.engine.Engine.{Engine}
+use Rattle.bins.specs.declared.state.Engine.{Engine}
 use Rattle.cabac.specs.declared.engine.State.{State}
 use Rattle.cabac.specs.declared.engine.State.the-variants as ofState
 use Rattle.cabac.specs.declared.engine.Decision.{Decision}
 use Rattle.cabac.specs.declared.engine.Decision.the-variants as ofDecision
 use Rattle.cabac.specs.declared.engine.Bins.{Bins}
 use Rattle.cabac.specs.declared.engine.Bins.the-variants as ofBins
-use Rattle.cabac.specs.Contexts.{contextCount, initialAll}
-use Rattle.cabac.specs.Engine.{Decided, Drawn, fetched, started, decided, bypassed, terminated, byteAligned, restarted, rawBits, alignedByte}
+use Rattle.bins.specs.declared.state.Taken.{Taken}
+use Rattle.bins.specs.Interval.{settled}
+use Rattle.bins.specs.Tags.{contextCount}
+use Rattle.cabac.specs.Contexts.{initialAll}
+use Rattle.bins.specs.Engine.{Decided, Drawn, fetched, started, decided, bypassed, terminated, byteAligned, restarted, rawBits, alignedByte}
 use Rattle.cabac.specs.Numbers.{Answer, accepted, refused, _orElse_, unless, payloadRefusal, stateRefusal, contextRefusal, countRefusal, offsetRefusal, endedRefusal}
 
 -- ---- what the code's answers say: document 01's number, 0 with the values
@@ -27,6 +30,10 @@ decisionSays (ofDecision.Refused n) = refused n
 abbrev pub binsSay : Bins → Answer Drawn
 binsSay (ofBins.Read v e) = accepted (record { value = v; next = e })
 binsSay (ofBins.Refused n) = refused n
+
+-- what a step took, seen from the state e that it was opened from
+abbrev pub drawnAt : List ℕ → Engine → Taken → Answer Drawn
+drawnAt l e t = accepted (record { value = t .value; next = settled l e (t .next) })
 
 -- ---- the entry points
 -- nine bits at the place of a state are its offset: 5

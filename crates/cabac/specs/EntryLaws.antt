@@ -11,19 +11,20 @@ use lib.Seq.{take-nil, drop-length, take-all, take-suc, take-suc-set, drop-set-l
 use lib.Dec.{ltb, leb, eqb}
 use lib.Count.{leadingZeros}
 use borrow.Author.Tests.{ltb-true, ltb-false, lt-ltb, le-ltb, eq-eqb, ne-eqb, lt-leb, le-leb}
-use Rattle.cabac.specs.declared.engine.Engine.{Engine}
-use Rattle.cabac.specs.declared.steps.Interval.{Interval}
-use Rattle.cabac.specs.declared.steps.Taken.{Taken}
-use Rattle.cabac.specs.declared.places.BitPlace.{BitPlace}
-use Rattle.cabac.specs.Bits.{bits, ends, after, over}
-use Rattle.cabac.specs.Contexts.{contextCount, slopeRaised, preRaised, held, packed, initial, initialAll}
-use Rattle.cabac.specs.Engine.{bitNo, place, fetched, renormed, started, Decided, decided, Drawn, bypassed, terminatedBy, terminated, alignedByte, byteAligned, restarted, rawBits}
-use Rattle.cabac.specs.Interval.{placeOf, pastMost, ranOn, Goes, Renorms, fetchedOn, renormedOn, decidedOn, decidedValue, bypassedOn, opened, settled, drawnAt}
-use Rattle.cabac.specs.EngineRuns.{Runs, runs-goes}
+use Rattle.bins.specs.declared.state.Engine.{Engine}
+use Rattle.bins.specs.declared.state.Interval.{Interval}
+use Rattle.bins.specs.declared.state.Taken.{Taken}
+use Rattle.bins.specs.declared.places.BitPlace.{BitPlace}
+use Rattle.bins.specs.Bits.{bits, ends, after, over}
+use Rattle.bins.specs.Tags.{contextCount}
+use Rattle.cabac.specs.Contexts.{slopeRaised, preRaised, held, packed, initial, initialAll}
+use Rattle.bins.specs.Engine.{bitNo, place, fetched, renormed, started, Decided, decided, Drawn, bypassed, terminatedBy, terminated, alignedByte, byteAligned, restarted, rawBits}
+use Rattle.bins.specs.Interval.{placeOf, pastMost, ranOn, Goes, Renorms, fetchedOn, renormedOn, decidedOn, decidedValue, bypassedOn, opened, settled}
+use Rattle.bins.specs.EngineRuns.{Runs, runs-goes}
 use Rattle.cabac.specs.Numbers.{Answer, accepted, refused, _orElse_, unless, payloadRefusal, stateRefusal, contextRefusal, countRefusal, offsetRefusal, endedRefusal}
 use Rattle.cabac.specs.NumberLaws.{or-else-assoc, or-else-first, or-else-rest, or-else-zero, unless-no, unless-yes, payload-passed, state-fits, state-runs, context-high, context-fine, count-high, count-fine, count-passed, offset-high, offset-fine, ended-is, ended-not}
-use Rattle.cabac.specs.Settled.{settled-opened, settled-fetched, settled-decided, settled-bypassed}
-use Rattle.cabac.specs.Entries.{startedAt, start, decision, bypassBits, terminate, byteAlign, restOf, restart, raw, valuesRefusal, contextsAfter, statisticsAfter}
+use Rattle.bins.specs.Settled.{settled-opened, settled-fetched, settled-decided, settled-bypassed}
+use Rattle.cabac.specs.Entries.{drawnAt, startedAt, start, decision, bypassBits, terminate, byteAlign, restOf, restart, raw, valuesRefusal, contextsAfter, statisticsAfter}
 
 -- ---- initialisation
 pub slope-small : (v q : ℕ) → v ≤ 255 → q ≤ 51 → 5 * (v / 16) * q ≤ 3825

@@ -7,10 +7,10 @@ use native.Mathlib.Omega.{arith}
 use lib.ListN.{length}
 use lib.Dec.{ltb, leb}
 use borrow.Author.Tests.{ltb-true, ltb-false, leb-true, leb-false, lt-ltb, le-ltb, lt-leb, le-leb}
-use Rattle.cabac.specs.declared.engine.Engine.{Engine}
-use Rattle.cabac.specs.Bits.{ends}
-use Rattle.cabac.specs.Engine.{place}
-use Rattle.cabac.specs.EngineRuns.{Runs}
+use Rattle.bins.specs.declared.state.Engine.{Engine}
+use Rattle.bins.specs.Bits.{ends}
+use Rattle.bins.specs.Engine.{place}
+use Rattle.bins.specs.EngineRuns.{Runs}
 use Rattle.cabac.specs.Numbers.{Answer, accepted, refused, _orElse_, unless, payloadRefusal, possible, stateRefusal, contextRefusal, countRefusal, offsetRefusal, endedRefusal}
 
 -- ---- a number and then another

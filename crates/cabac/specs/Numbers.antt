@@ -4,9 +4,9 @@ use mathlib.Core.List.{List}
 use mathlib.Core.Bool.{Bool, _&&_, _||_, cond}
 use lib.ListN.{length}
 use lib.Dec.{ltb, leb}
-use Rattle.cabac.specs.declared.engine.Engine.{Engine}
-use Rattle.cabac.specs.Bits.{ends}
-use Rattle.cabac.specs.Engine.{place}
+use Rattle.bins.specs.declared.state.Engine.{Engine}
+use Rattle.bins.specs.Bits.{ends}
+use Rattle.bins.specs.Engine.{place}
 
 -- what an entry point answers: 0 with what it gives, or the number of the refusal
 pub data Answer (A : Type 0) : Type 0 where

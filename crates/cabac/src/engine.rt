@@ -1,31 +1,24 @@
 // The arithmetic engine (H.265 9.3.4.3): its state, and the entry points over a payload and a state.
 // Each takes anything: what document 01 does not accept is answered by its number, and the caller's state stands.
-use crate::fetch::fetch;
-use crate::fetch::moved;
-use crate::payload;
-use crate::places::BitPlace;
-use crate::places::aligned;
-use crate::places::first_bit;
-use crate::steps::Interval;
-use crate::steps::Taken;
+use bins::fetch::fetch;
+use bins::fetch::moved;
+use bins::payload;
+use bins::places::BitPlace;
+use bins::places::aligned;
+use bins::places::first_bit;
+use bins::state::Engine;
+use bins::state::Interval;
+use bins::state::Taken;
 use tables::decision_table;
 ghost use mathlib.Core.Path.{_≡_};
 ghost use Prim.Native.Nat.{_+_, _≤_, _<_};
 ghost use lib.ListN.{length};
-ghost use Rattle.cabac.specs.Bits.{ends};
-ghost use Rattle.cabac.specs.Engine.{place, alignedByte};
-ghost use Rattle.cabac.specs.Interval.{opened, settled, pastMost, drawnAt};
+ghost use Rattle.bins.specs.Bits.{ends};
+ghost use Rattle.bins.specs.Engine.{place, alignedByte};
+ghost use Rattle.bins.specs.Interval.{opened, settled, pastMost};
 ghost use Rattle.cabac.specs.Numbers.{_orElse_, payloadRefusal, stateRefusal, contextRefusal, countRefusal, endedRefusal};
-ghost use Rattle.cabac.specs.Entries.{stateSays, decisionSays, binsSay};
+ghost use Rattle.cabac.specs.Entries.{drawnAt, stateSays, decisionSays, binsSay};
 ghost use Rattle.cabac.specs.Entries as entries;
-
-pub struct Engine {
-    pub range: u32,
-    pub offset: u32,
-    pub at: BitPlace,
-    pub ended: bool,
-    pub past: bool,
-}
 
 // A state, or the number of the refusal.
 pub enum State {

@@ -7,12 +7,13 @@ use lib.ListN.{length, drop, set, replicate}
 use lib.Dec.{eqb}
 use lib.Count.{leadingZeros}
 use lib.IntN.{ℤ, pos, negsuc}
-use Rattle.cabac.specs.Bits.{bits}
+use Rattle.bins.specs.Bits.{bits}
 use Rattle.tables.specs.Tables.{rangeTabLps, transIdxMps, transIdxLps, lpsOf, onMps, onLps}
-use Rattle.cabac.specs.Engine.{place, Decided, Drawn, fetched, started, splitBy, split, decided, bypassed}
-use Rattle.cabac.specs.Contexts.{contextCount, slopeRaised, preRaised, initial, initialAll}
-use Rattle.cabac.specs.Syn.{_>>=_, run, byEngine, byList, write}
-use Rattle.cabac.specs.Readers.{bitsS, onesS, prefixS}
+use Rattle.bins.specs.Engine.{place, Decided, Drawn, fetched, started, splitBy, split, decided, bypassed}
+use Rattle.bins.specs.Tags.{contextCount}
+use Rattle.cabac.specs.Contexts.{slopeRaised, preRaised, initial, initialAll}
+use Rattle.bins.specs.Syn.{_>>=_, run, byEngine, byList, write}
+use Rattle.bins.specs.Readers.{bitsS, onesS, prefixS}
 use Rattle.cabac.specs.Numbers.{Answer, accepted, refused, _orElse_, unless, payloadRefusal, possible, stateRefusal, contextRefusal, countRefusal, offsetRefusal, endedRefusal}
 use Rattle.cabac.specs.Entries.{start, decision, bypassBits}
 use Rattle.residual.specs.declared.params.Params.{Params}

@@ -5,8 +5,8 @@ use mathlib.Core.List.{List, [], _∷_, _++_}
 use mathlib.Core.Bool.{Bool}
 use lib.ListN.{length, take, drop, replicate}
 use lib.IntN.{ℤ, pos}
-use Rattle.cabac.specs.declared.engine.Engine.{Engine}
-use Rattle.cabac.specs.Syn.{Out, Reading, Written, run, byEngine, byList, write}
+use Rattle.bins.specs.declared.state.Engine.{Engine}
+use Rattle.bins.specs.Syn.{Out, Reading, Written, run, byEngine, byList, write}
 use Rattle.cabac.specs.Numbers.{Answer, accepted, refused, _orElse_, payloadRefusal, stateRefusal, endedRefusal}
 use Rattle.residual.specs.declared.params.Params.{Params}
 use Rattle.residual.specs.declared.params.Rdpcm.{Rdpcm}

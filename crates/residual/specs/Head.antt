@@ -4,8 +4,8 @@ use mathlib.Core.List.{List, [], _∷_}
 use mathlib.Core.Bool.{Bool, true, false, not, _&&_, _||_, cond}
 use lib.ListN.{getD}
 use lib.Dec.{leb, eqb}
-use Rattle.cabac.specs.Syn.{done, _>>=_}
-use Rattle.cabac.specs.Readers.{flagIf, bitsS, prefixS}
+use Rattle.bins.specs.Syn.{done, _>>=_}
+use Rattle.bins.specs.Readers.{flagIf, bitsS, prefixS}
 use Rattle.residual.specs.declared.params.Params.{Params}
 use Rattle.residual.specs.declared.params.Rdpcm.{Rdpcm}
 use Rattle.residual.specs.declared.params.Rdpcm.the-variants as ofRdpcm

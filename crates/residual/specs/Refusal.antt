@@ -4,7 +4,7 @@ use mathlib.Core.List.{List, [], _∷_}
 use mathlib.Core.Bool.{Bool, true, false, not, _&&_, _||_, cond, Bool·beq}
 use lib.Dec.{eqb}
 use lib.IntN.{ℤ, natAbs}
-use Rattle.cabac.specs.Readers.{odd}
+use Rattle.bins.specs.Readers.{odd}
 use Rattle.residual.specs.declared.params.Params.{Params}
 use Rattle.residual.specs.Scan.{Spot}
 use Rattle.residual.specs.Wanted.{Wanted, negative, outerOf, innerOf, wantedIn, downFrom, lastOf, sigPlaces}

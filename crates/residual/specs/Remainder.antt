@@ -3,8 +3,8 @@ use Prim.Native.Nat.{ℕ, zero, suc, _+_, _-_, _*_, _/_, _^_, min, max}
 use mathlib.Core.Bool.{Bool, true, false, _&&_, _||_, cond}
 use lib.Dec.{ltb, leb, eqb}
 use lib.IntN.{ℤ, pos, negsuc}
-use Rattle.cabac.specs.Syn.{done, stop, _>>=_}
-use Rattle.cabac.specs.Readers.{bitsS, onesS}
+use Rattle.bins.specs.Syn.{done, stop, _>>=_}
+use Rattle.bins.specs.Readers.{bitsS, onesS}
 use Rattle.residual.specs.declared.params.Params.{Params}
 use Rattle.residual.specs.Wanted.{Wanted, S}
 

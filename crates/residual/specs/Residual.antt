@@ -5,8 +5,8 @@ use mathlib.Core.Bool.{Bool, true, false, not, _&&_, _||_, cond}
 use lib.ListN.{getD, set, replicate}
 use lib.Dec.{ltb, eqb}
 use lib.IntN.{ℤ, pos, natAbs}
-use Rattle.cabac.specs.Engine.{bitNo}
-use Rattle.cabac.specs.Syn.{done, bin, _>>=_}
+use Rattle.bins.specs.Engine.{bitNo}
+use Rattle.bins.specs.Syn.{done, bin, _>>=_}
 use Rattle.residual.specs.declared.params.Params.{Params}
 use Rattle.residual.specs.declared.params.Rdpcm.{Rdpcm}
 use Rattle.residual.specs.Layout.{atSigCoeff, atCodedSubBlock, inChroma}

@@ -5,9 +5,9 @@ use mathlib.Core.Bool.{Bool, true, false, not, _&&_, _||_, cond}
 use lib.ListN.{length, getD, set}
 use lib.Dec.{ltb, eqb}
 use lib.IntN.{ℤ, natAbs}
-use Rattle.cabac.specs.Engine.{bitNo}
-use Rattle.cabac.specs.Syn.{done, stop, bin, align, _>>=_}
-use Rattle.cabac.specs.Readers.{odd, flagIf, bitsS}
+use Rattle.bins.specs.Engine.{bitNo}
+use Rattle.bins.specs.Syn.{done, stop, bin, align, _>>=_}
+use Rattle.bins.specs.Readers.{odd, flagIf, bitsS}
 use Rattle.residual.specs.declared.params.Params.{Params}
 use Rattle.residual.specs.declared.params.Rdpcm.{Rdpcm}
 use Rattle.residual.specs.Layout.{atGreater1, atGreater2, inChroma}

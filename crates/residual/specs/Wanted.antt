@@ -5,7 +5,7 @@ use mathlib.Core.Bool.{Bool, true, false, cond}
 use lib.ListN.{getD}
 use lib.Dec.{ltb}
 use lib.IntN.{ℤ, pos, negsuc, natAbs}
-use Rattle.cabac.specs.Syn.{Syn}
+use Rattle.bins.specs.Syn.{Syn}
 use Rattle.residual.specs.declared.params.Params.{Params}
 use Rattle.residual.specs.declared.params.Rdpcm.{Rdpcm}
 use Rattle.residual.specs.Scan.{Spot, spot, scanOrder}

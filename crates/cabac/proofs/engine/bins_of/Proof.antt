@@ -1,8 +1,8 @@
 -- `bins_of` meets its contract. Assumes nothing.
 use mathlib.Core.Path.{ap}
-use Rattle.cabac.specs.Engine.{Drawn}
+use Rattle.bins.specs.Engine.{Drawn}
 use Rattle.cabac.specs.Numbers.{accepted}
-use Rattle.cabac.specs.declared.engine.Engine.{Engine}
+use Rattle.bins.specs.declared.state.Engine.{Engine}
 use borrow.Author.Needs.{needs}
 use Rattle.cabac.proofs.engine.bins_of.Statement.{statement}
 use Rattle.cabac.proofs.engine.bins_of.Tie as tie

@@ -1,8 +1,8 @@
 -- `decode_bin` meets its contract. Assumes nothing.
 use native.Mathlib.Omega.{arith}
 use mathlib.Core.Path.{sym, ap, _∙_}
-use Rattle.cabac.specs.Interval.{decidedOn, decidedValue}
-use Rattle.cabac.specs.declared.steps.Interval.{Interval}
+use Rattle.bins.specs.Interval.{decidedOn, decidedValue}
+use Rattle.bins.specs.declared.state.Interval.{Interval}
 use Rattle.cabac.specs.EntryLaws.{decision-no, decision-context, decision-ended, decision-yes, opened-goes, passed-fits}
 use borrow.Author.Needs.{needs}
 use Rattle.cabac.proofs.engine.decode_bin.Statement.{statement}

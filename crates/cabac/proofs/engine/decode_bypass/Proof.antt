@@ -1,8 +1,8 @@
 -- `decode_bypass` meets its contract. Assumes nothing.
 use native.Mathlib.Omega.{arith}
 use mathlib.Core.Path.{sym, ap, _∙_}
-use Rattle.cabac.specs.Interval.{bypassedOn}
-use Rattle.cabac.specs.declared.steps.Interval.{Interval}
+use Rattle.bins.specs.Interval.{bypassedOn}
+use Rattle.bins.specs.declared.state.Interval.{Interval}
 use Rattle.cabac.specs.EntryLaws.{bypass-no, bypass-ended, bypass-yes, counted-one, opened-goes, passed-fits}
 use borrow.Author.Needs.{needs}
 use Rattle.cabac.proofs.engine.decode_bypass.Statement.{statement}

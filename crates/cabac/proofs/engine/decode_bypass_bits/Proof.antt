@@ -1,7 +1,7 @@
 -- `decode_bypass_bits` meets its contract. Assumes nothing.
 use mathlib.Core.Path.{sym, ap, _∙_}
-use Rattle.cabac.specs.Interval.{bypassedOn}
-use Rattle.cabac.specs.declared.steps.Interval.{Interval}
+use Rattle.bins.specs.Interval.{bypassedOn}
+use Rattle.bins.specs.declared.state.Interval.{Interval}
 use Rattle.cabac.specs.EntryLaws.{bypass-no, bypass-ended, bypass-yes, counted, opened-goes, passed-fits}
 use borrow.Author.Needs.{needs}
 use Rattle.cabac.proofs.engine.decode_bypass_bits.Statement.{statement}

@@ -2,8 +2,8 @@
 use native.Mathlib.Omega.{arith}
 use mathlib.Core.Path.{sym, ap, _∙_}
 use Prim.Native.Nat.{_-_}
-use Rattle.cabac.specs.Interval.{renormedOn}
-use Rattle.cabac.specs.declared.steps.Interval.{Interval}
+use Rattle.bins.specs.Interval.{renormedOn}
+use Rattle.bins.specs.declared.state.Interval.{Interval}
 use Rattle.cabac.specs.EntryLaws.{terminate-no, terminate-ended, terminate-one, terminate-zero, opened-renorms, passed-fits, passed-runs}
 use borrow.Author.Needs.{needs}
 use Rattle.cabac.proofs.engine.decode_terminate.Statement.{statement}

@@ -2,7 +2,7 @@
 use native.Mathlib.Omega.{arith}
 use mathlib.Core.Path.{sym, _∙_}
 use Rattle.cabac.specs.EntryLaws.{rest-none, rest-part, rest-no, rest-yes, passed-fits}
-use Rattle.cabac.specs.Engine.{alignedByte}
+use Rattle.bins.specs.Engine.{alignedByte}
 use borrow.Author.Needs.{needs}
 use Rattle.cabac.proofs.engine.rest.Statement.{statement}
 use Rattle.cabac.proofs.engine.rest.Tie as tie

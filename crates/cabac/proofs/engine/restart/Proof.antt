@@ -1,8 +1,8 @@
 -- `restart` meets its contract. Assumes nothing.
 use native.Mathlib.Omega.{arith}
 use mathlib.Core.Path.{sym, ap, _∙_}
-use Rattle.cabac.specs.declared.engine.Engine.{Engine}
-use Rattle.cabac.specs.declared.places.BitPlace.{BitPlace}
+use Rattle.bins.specs.declared.state.Engine.{Engine}
+use Rattle.bins.specs.declared.places.BitPlace.{BitPlace}
 use mathlib.Core.Bool.{false}
 use Prim.Native.Nat.{ℕ}
 use Rattle.cabac.specs.EntryLaws.{restart-no, restart-yes, passed-fits}

@@ -1,0 +1,33 @@
+-- `renorm` meets its contract. Assumes nothing.
+use native.Mathlib.Omega.{arith}
+use Rattle.bins.specs.Interval.{placeOf}
+use Rattle.bins.specs.BitLaws.{bits-below}
+use Rattle.bins.specs.EngineLaws.{shifted}
+use Rattle.bins.specs.IntervalLaws.{shift, shift-few, offset-small, renormed-code}
+use Rattle.bins.proofs.payload.renorm.Statement.{statement}
+use Rattle.bins.proofs.payload.renorm.Tie as tie
+
+sub-shift : tie.Need-sub-shift
+sub-shift c = let a = c .before .args in let h = c .before .pre in omega (arith, shifted (a .range) (h .some) (h .nine) .same)
+
+fetch-requires : tie.Need-fetch-requires
+fetch-requires c κs = let a = c .before .before .args in let h = c .before .before .pre in (h .fits, h .short, omega (arith, shift-few (a .bytes .now) (a .x) (a .range) (a .offset) h))
+
+moved-requires : tie.Need-moved-requires
+moved-requires c κs = let a = c .before .before .before .args in let h = c .before .before .before .pre in (h .fits, h .short, omega (arith, shift-few (a .bytes .now) (a .x) (a .range) (a .offset) h))
+
+shl-t9 : tie.Need-shl-t9
+shl-t9 c = let a = c .before .before .before .before .args in let h = c .before .before .before .before .pre in omega (arith, shift-few (a .bytes .now) (a .x) (a .range) (a .offset) h)
+
+shl-t10 : tie.Need-shl-t10
+shl-t10 c = let a = c .before .before .before .before .args in let h = c .before .before .before .before .pre in omega (arith, shift-few (a .bytes .now) (a .x) (a .range) (a .offset) h)
+
+add-t11 : tie.Need-add-t11
+add-t11 c = let a = c .before .before .before .before .args in let h = c .before .before .before .before .pre in let few = shift-few (a .bytes .now) (a .x) (a .range) (a .offset) h in omega (arith, offset-small (a .bytes .now) (a .x) (a .range) (a .offset) h, c .before .fetch .ensures, bits-below (a .bytes .now) (placeOf (a .x)) (shift (a .bytes .now) (a .x) (a .range) (a .offset) h) 8 few)
+
+returns : tie.Need-returns
+returns c = let a = c .before .before .before .before .args in renormed-code (a .bytes .now) (a .x) (a .range) (a .offset) (c .before .before .before .before .pre) _ _ (c .before .fetch .ensures) (c .moved .ensures)
+
+pub renorm-spec : {M : Type 1} → statement M
+renorm-spec =
+    tie.close (tie.spec sub-shift fetch-requires moved-requires shl-t9 shl-t10 add-t11 returns)

@@ -1,0 +1,163 @@
+-- An answer of a step taken apart: what it says of the source. Assumes nothing.
+use Prim.Native.Nat.{ℕ, zero, suc, _+_, _-_, _*_, _^_, _≤_, _<_}
+use mathlib.Core.Path.{_≡_, refl, sym, ap, subst, _∙_}
+use mathlib.Core.Bool.{Bool, true, false, cond}
+use mathlib.Core.List.{List}
+use native.Mathlib.Omega.{arith}
+use native.Mathlib.Nat.{pow-suc}
+use native.Mathlib.Numerals.{add-one}
+use Rattle.bins.specs.CodeLaws.{bin-readable}
+use lib.ListN.{length, getD}
+use lib.Dec.{ltb, eqb}
+use borrow.Author.Tests.{lt-ltb, le-ltb, eq-eqb, ne-eqb}
+use Rattle.bins.specs.declared.state.Interval.{Interval}
+use Rattle.bins.specs.declared.state.Step.{Step}
+use Rattle.bins.specs.declared.state.Step.the-variants as step
+use Rattle.bins.specs.Engine.{bitNo}
+use Rattle.bins.specs.Tags.{tag, bypassNo, alignTag}
+use Rattle.bins.specs.Interval.{placeOf}
+use Rattle.bins.specs.Syn.{Took, took, refused, Out, onward, run, pickBin, binOf}
+use Rattle.bins.specs.Readers.{bitsS}
+use Rattle.bins.specs.Laws.{After, RefusedBy}
+use Rattle.bins.specs.Sources.{stepOf, stepOfBits, behind, entryBin, entryAlign, byEntries, entriesOn}
+
+pub bit-small : (b : Bool) → bitNo b < 2
+bit-small true = omega arith
+bit-small false = omega arith
+
+pub step-took : (t : Took Interval) (r : Step) (v : ℕ) (x : Interval) → r ≡ stepOf t → r ≡ step.Bin v x → (b : Bool) × (v ≡ bitNo b) × (t ≡ took b x)
+step-took (took b y) r v x p q = (b, cc, let e : y ≡ x = cc in ap (took b) e)
+step-took (refused n) r v x p q = let z : _≡_ {A = ℕ} 0 1 = cc in absurd (omega arith)
+
+pub step-refused : (t : Took Interval) (r : Step) (n : ℕ) → r ≡ stepOf t → r ≡ step.Refused n → t ≡ refused n
+step-refused (took b y) r n p q = let z : _≡_ {A = ℕ} 0 1 = cc in absurd (omega arith)
+step-refused (refused m) r n p q = let e : m ≡ n = cc in ap refused e
+
+pub bits-took : (o : Out Interval ℕ) (r : Step) (v : ℕ) (x : Interval) → r ≡ stepOfBits o → r ≡ step.Bin v x → o ≡ Out.ok v x
+bits-took (Out.ok w y) r v x p q = let e : w ≡ v = cc in let f : y ≡ x = cc in cc
+bits-took (Out.no n y) r v x p q = let z : _≡_ {A = ℕ} 0 1 = cc in absurd (omega arith)
+
+pub bits-refused : (o : Out Interval ℕ) (r : Step) (n : ℕ) → r ≡ stepOfBits o → r ≡ step.Refused n → RefusedBy n o
+bits-refused (Out.ok w y) r n p q = let z : _≡_ {A = ℕ} 0 1 = cc in absurd (omega arith)
+bits-refused (Out.no m y) r n p q = let e : m ≡ n = cc in (y, ap (λ k. Out.no k y) e)
+
+-- ---- one entry of a list, as the code looks at it: i is the place, y the interval behind the entry
+module _ (l : List ℕ) (x : Interval) (i : ℕ) (at : i ≡ placeOf x) where
+  module _ (c : ℕ) where
+    pub entry-zero : (y : Interval) → i < length l → getD l i 0 ≡ 2 * c → y ≡ behind x → step.Bin 0 y ≡ stepOf (entryBin l c x)
+    unfolding entryBin binOf pickBin
+    entry-zero y h q e =
+        rw (lt-ltb (placeOf x) (length l) (rw at at h), eq-eqb (getD l (placeOf x) 0) (2 * c + 0) (rw at at q ∙ omega arith)) (ap (step.Bin 0) e)
+
+    pub entry-one : (y : Interval) → i < length l → getD l i 0 ≡ 2 * c + 1 → y ≡ behind x → step.Bin 1 y ≡ stepOf (entryBin l c x)
+    unfolding entryBin binOf pickBin
+    entry-one y h q e =
+        let p : getD l (placeOf x) 0 ≡ 2 * c + 1 = rw at at q in
+        rw (lt-ltb (placeOf x) (length l) (rw at at h), ne-eqb (getD l (placeOf x) 0) (2 * c + 0) (λ z. omega arith), eq-eqb (getD l (placeOf x) 0) (2 * c + 1) p)
+        (ap (step.Bin 1) e)
+
+    pub entry-other : i < length l → (getD l i 0 ≡ 2 * c → ⊥) → (getD l i 0 ≡ 2 * c + 1 → ⊥) → step.Refused 13 ≡ stepOf (entryBin l c x)
+    unfolding entryBin binOf pickBin
+    entry-other h p q =
+        let p′ : getD l (placeOf x) 0 ≡ 2 * c → ⊥ = rw at at p in
+        let q′ : getD l (placeOf x) 0 ≡ 2 * c + 1 → ⊥ = rw at at q in
+        rw (lt-ltb (placeOf x) (length l) (rw at at h), ne-eqb (getD l (placeOf x) 0) (2 * c + 0) (λ z. p′ (omega arith)), ne-eqb (getD l (placeOf x) 0) (2 * c + 1) q′)
+
+    pub entry-none : length l ≤ i → step.Refused 13 ≡ stepOf (entryBin l c x)
+    unfolding entryBin
+    entry-none h = rw (le-ltb (placeOf x) (length l) (rw at at h))
+
+  pub align-entry : (y : Interval) → i < length l → getD l i 0 ≡ alignTag → y ≡ behind x → step.Bin 0 y ≡ stepOf (entryAlign l x)
+  unfolding entryAlign
+  align-entry y h q e =
+      rw (lt-ltb (placeOf x) (length l) (rw at at h), eq-eqb (getD l (placeOf x) 0) alignTag (rw at at q)) (ap (step.Bin 0) e)
+
+  pub align-other : i < length l → (getD l i 0 ≡ alignTag → ⊥) → step.Refused 13 ≡ stepOf (entryAlign l x)
+  unfolding entryAlign
+  align-other h p = rw (lt-ltb (placeOf x) (length l) (rw at at h), ne-eqb (getD l (placeOf x) 0) alignTag (rw at at p))
+
+  pub align-none : length l ≤ i → step.Refused 13 ≡ stepOf (entryAlign l x)
+  unfolding entryAlign
+  align-none h = rw (le-ltb (placeOf x) (length l) (rw at at h))
+
+-- a list refuses by 13 alone
+is-13 : (b : Bool) (t : Took Interval) (n : ℕ) → ((m : ℕ) → t ≡ refused m → m ≡ 13) → cond b t (refused 13) ≡ refused n → n ≡ 13
+is-13 true t n f q = f n q
+is-13 false t n f q = cc
+
+pick-13 : (u v : Bool) (x : Interval) (n : ℕ) → pickBin u v (refused 13) (λ b. took b x) ≡ refused n → n ≡ 13
+unfolding pickBin
+pick-13 true v x n q = let z : _≡_ {A = ℕ} 0 1 = cc in absurd (omega arith)
+pick-13 false true x n q = let z : _≡_ {A = ℕ} 0 1 = cc in absurd (omega arith)
+pick-13 false false x n q = cc
+
+pub entry-13 : (l : List ℕ) (c : ℕ) (x : Interval) (n : ℕ) → entryBin l c x ≡ refused n → n ≡ 13
+unfolding entryBin binOf
+entry-13 l c x n q =
+    is-13 (ltb (placeOf x) (length l)) (binOf c (getD l (placeOf x) 0) (refused 13) (λ b. took b (behind x))) n
+    (λ m r. pick-13 (eqb (getD l (placeOf x) 0) (tag c false)) (eqb (getD l (placeOf x) 0) (tag c true)) (behind x) m r) q
+
+-- ---- several entries: what is left to read, as the loop has it
+module _ (l : List ℕ) (n i v : ℕ) (x y : Interval) where
+  abbrev pub Left : Type 0
+  Left = entriesOn l n 0 x ≡ entriesOn l (n - i) v y
+
+  pub left-again : Left → i < n → (b : Bool) (z : Interval) → entryBin l bypassNo y ≡ took b z
+      → entriesOn l n 0 x ≡ entriesOn l (n - (i + 1)) (v * 2 + bitNo b) z
+  unfolding entriesOn
+  left-again h k b z q =
+      let s : n - i ≡ suc (n - (i + 1)) = omega arith in
+      h ∙ ap (λ m. run (byEntries l) (bitsS {B = ℕ} m v (λ t. t)) y) s
+      ∙ unfold run bitsS byEntries onward in ap (λ (t : Took Interval). onward t y (λ b s′. run (byEntries l) (bitsS {B = ℕ} (n - (i + 1)) (v * 2 + bitNo b) (λ t. t)) s′)) q
+
+  pub left-refused : Left → i < n → (m : ℕ) → entryBin l bypassNo y ≡ refused m → entriesOn l n 0 x ≡ Out.no m y
+  unfolding entriesOn
+  left-refused h k m q =
+      let s : n - i ≡ suc (n - (i + 1)) = omega arith in
+      h ∙ ap (λ m. run (byEntries l) (bitsS {B = ℕ} m v (λ t. t)) y) s
+      ∙ unfold run bitsS byEntries onward in ap (λ (t : Took Interval). onward t y (λ b s′. run (byEntries l) (bitsS {B = ℕ} (n - (i + 1)) (v * 2 + bitNo b) (λ t. t)) s′)) q
+
+  pub left-done : Left → n ≤ i → entriesOn l n 0 x ≡ Out.ok v y
+  unfolding entriesOn
+  left-done h k =
+      let s : n - i ≡ 0 = omega arith in
+      h ∙ ap (λ m. run (byEntries l) (bitsS {B = ℕ} m v (λ t. t)) y) s ∙ unfold run bitsS in refl
+
+-- the loop's invariant
+pub record Entries (l : List ℕ) (n i v : ℕ) (x y : Interval) : Type 0 where
+  pub few : i ≤ n
+  pub fits : placeOf y ≤ length l
+  pub small : v < 2 ^ i
+  pub left : Left l n i v x y
+
+pub entries-begin : (l : List ℕ) (n : ℕ) (x : Interval) → placeOf x ≤ length l → Entries l n 0 0 x x
+entries-begin l n x h =
+    let s : n ≡ n - 0 = omega arith in
+    record { few = omega arith; fits = h; small = omega arith; left = ap (λ m. entriesOn l m 0 x) s }
+
+pub entries-again : (l : List ℕ) (n i v : ℕ) (x y : Interval) (r : Step) (b : ℕ) (z : Interval) → Entries l n i v x y → i < n
+    → r ≡ stepOf (entryBin l bypassNo y) → r ≡ step.Bin b z → (b < 2) × Entries l n (i + 1) (v * 2 + b) x z
+entries-again l n i v x y r b z h k p q =
+    let t = step-took (entryBin l bypassNo y) r b z p q in
+    let d = bit-small (t .0) in
+    let e : b ≡ bitNo (t .0) = t .1 in
+    let f : placeOf z ≤ length l = subst (After (λ u. placeOf u ≤ length l)) (t .2) (bin-readable l bypassNo y) in
+    let w : 2 ^ (i + 1) ≡ 2 ^ i * 2 = rw (add-one i) (pow-suc 2 i) in (
+      omega arith,
+      record {
+        few = omega arith;
+        fits = f;
+        small = omega (arith, h .small);
+        left = left-again l n i v x y (h .left) k (t .0) z (t .2) ∙ ap (λ u. entriesOn l (n - (i + 1)) (v * 2 + u) z) (sym e);
+      },
+    )
+
+pub entries-stop : (l : List ℕ) (n i v : ℕ) (x y : Interval) (r : Step) (m : ℕ) → Entries l n i v x y → i < n
+    → r ≡ stepOf (entryBin l bypassNo y) → r ≡ step.Refused m → step.Refused 13 ≡ stepOfBits (entriesOn l n 0 x)
+entries-stop l n i v x y r m h k p q =
+    let t = step-refused (entryBin l bypassNo y) r m p q in
+    let e : 13 ≡ m = sym (entry-13 l bypassNo y m t) in
+    ap step.Refused e ∙ ap stepOfBits (sym (left-refused l n i v x y (h .left) k m t))
+
+pub entries-end : (l : List ℕ) (n i v : ℕ) (x y : Interval) → Entries l n i v x y → n ≤ i → step.Bin v y ≡ stepOfBits (entriesOn l n 0 x)
+entries-end l n i v x y h k = ap stepOfBits (sym (left-done l n i v x y (h .left) k))

@@ -1,0 +1,85 @@
+// The same steps from a bin list. A place in a list counts its entries; an entry is a byte.
+use crate::places::BitPlace;
+use crate::places::BytePlace;
+use crate::state::Interval;
+use crate::state::Step;
+ghost use mathlib.Core.Path.{_≡_};
+ghost use Prim.Native.Nat.{_≤_, _<_};
+ghost use lib.ListN.{length};
+ghost use Rattle.bins.specs.Interval.{placeOf};
+ghost use Rattle.bins.specs.Sources.{behind, stepOf, stepOfBits, entryBin, entryAlign, entriesOn};
+
+// The fetch: the byte that an entry is.
+fn entry_at(at: BitPlace) -> BytePlace
+    ensures { λ r. ⌜ r .0 ≡ at .0 ⌝ }
+{
+    BytePlace(at.0)
+}
+
+fn next_entry(x: Interval) -> Interval
+    requires { ⌜ placeOf x < 9223372036854775808 ⌝ }
+    ensures { λ r. ⌜ r ≡ behind x ⌝ }
+{
+    Interval {
+        range: x.range,
+        offset: x.offset,
+        at: BitPlace(x.at.0 + 1),
+    }
+}
+
+// A bin with the context of a number; bypass stands as one more number.
+pub fn bin(bytes: &[u8], number: u32, x: Interval) -> Step
+    requires { ⌜ (placeOf x ≤ length (now bytes)) × (number < 128) ⌝ }
+    ensures { λ r. ⌜ r ≡ stepOf (entryBin (now (bytes .entry)) number x) ⌝ }
+{
+    let at = x.at;
+    let place = entry_at(at);
+    let i = place.0;
+    if i < bytes.len() {
+        let entry = bytes[i] as u32;
+        if entry == 2 * number {
+            let next = next_entry(x);
+            return Step::Bin(0, next);
+        }
+        if entry == 2 * number + 1 {
+            let next = next_entry(x);
+            return Step::Bin(1, next);
+        }
+    }
+    Step::Refused(13)
+}
+
+pub fn align(bytes: &[u8], x: Interval) -> Step
+    requires { ⌜ placeOf x ≤ length (now bytes) ⌝ }
+    ensures { λ r. ⌜ r ≡ stepOf (entryAlign (now (bytes .entry)) x) ⌝ }
+{
+    let at = x.at;
+    let place = entry_at(at);
+    let i = place.0;
+    if i < bytes.len() {
+        if bytes[i] == 242 {
+            let next = next_entry(x);
+            return Step::Bin(0, next);
+        }
+    }
+    Step::Refused(13)
+}
+
+// n bypass bins as a number.
+pub fn bypass_bits(bytes: &[u8], x: Interval, n: u32) -> Step
+    requires { ⌜ (placeOf x ≤ length (now bytes)) × (n ≤ 32) ⌝ }
+    ensures { λ r. ⌜ r ≡ stepOfBits (entriesOn (now (bytes .entry)) n 0 x) ⌝ }
+{
+    let mut y = x;
+    let mut v: u32 = 0;
+    let mut i: u32 = 0;
+    while i < n {
+        let Step::Bin(b, next) = bin(bytes, 120, y) else {
+            return Step::Refused(13);
+        };
+        v = v * 2 + b;
+        y = next;
+        i += 1;
+    }
+    Step::Bin(v, y)
+}

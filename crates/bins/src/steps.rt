@@ -1,0 +1,81 @@
+// A step from whichever source a reader reads: a bin list, or a payload by the arithmetic engine.
+use crate::list;
+use crate::payload;
+use crate::state::Interval;
+use crate::state::Step;
+use crate::state::Taken;
+ghost use mathlib.Core.Path.{_≡_};
+ghost use Prim.Native.Nat.{_≤_, _<_};
+ghost use Rattle.tables.specs.Decisions.{decisions};
+ghost use Rattle.bins.specs.Sources.{Readable, stepOf, stepOfBits, binFrom, contextFrom, bypassFrom, bitsFrom, alignFrom};
+
+fn step_of(t: Taken) -> Step
+    ensures { λ r. ⌜ r ≡ Step.Bin (t .value) (t .next) ⌝ }
+{
+    let next = t.next;
+    Step::Bin(t.value, next)
+}
+
+// A bin with the lent context, whose number is given.
+pub fn decode_bin(
+    list: bool,
+    table: &[u32; 512],
+    c: &mut u8,
+    number: u32,
+    bytes: &[u8],
+    x: Interval,
+) -> Step
+    requires { ⌜ Readable list (now bytes) x × (now c < 128) × (number < 128) × (now table ≡ decisions) ⌝ }
+    ensures { λ r. ⌜ (r ≡ stepOf (binFrom list (now (bytes .entry)) number (now (c .entry)) x)) × (now (c .exit) ≡ contextFrom list (now (bytes .entry)) (now (c .entry)) x) ⌝ }
+{
+    if list {
+        return list::bin(bytes, number, x);
+    }
+    let t = payload::decide(table, c, bytes, x);
+    step_of(t)
+}
+
+pub fn decode_bypass(list: bool, bytes: &[u8], x: Interval) -> Step
+    requires { ⌜ Readable list (now bytes) x ⌝ }
+    ensures { λ r. ⌜ r ≡ stepOf (bypassFrom list (now (bytes .entry)) x) ⌝ }
+{
+    if list {
+        return list::bin(bytes, 120, x);
+    }
+    let t = payload::bypass_one(bytes, x);
+    step_of(t)
+}
+
+pub fn decode_bypass_bits(list: bool, bytes: &[u8], x: Interval, n: u32) -> Step
+    requires { ⌜ Readable list (now bytes) x × (n ≤ 32) ⌝ }
+    ensures { λ r. ⌜ r ≡ stepOfBits (bitsFrom list (now (bytes .entry)) n x) ⌝ }
+{
+    if list {
+        return list::bypass_bits(bytes, x, n);
+    }
+    let t = payload::bypass_bits(bytes, x, n);
+    step_of(t)
+}
+
+// The range becomes 256 before escape bytes; an offset that lies above it is 7.
+pub fn align_bypass(list: bool, bytes: &[u8], x: Interval) -> Step
+    requires { ⌜ Readable list (now bytes) x ⌝ }
+    ensures { λ r. ⌜ r ≡ stepOf (alignFrom list (now (bytes .entry)) x) ⌝ }
+{
+    if list {
+        return list::align(bytes, x);
+    }
+    let at = x.at;
+    let offset = x.offset;
+    if 256 <= offset {
+        return Step::Refused(7);
+    }
+    Step::Bin(
+        0,
+        Interval {
+            range: 256,
+            offset,
+            at,
+        },
+    )
+}
