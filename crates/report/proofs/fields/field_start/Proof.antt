@@ -1,0 +1,51 @@
+-- `field_start` meets its contract. Assumes nothing.
+use Prim.Native.Nat.{_≤_}
+use lib.ListN.{length}
+use borrow.Author.Needs.{needs}
+use Rattle.report.proofs.fields.field_start.Statement.{statement}
+use Rattle.report.proofs.fields.field_start.Tie as tie
+
+abbrev Inv-loop : tie.InvT-loop
+Inv-loop s k from₀ left₀ from left = from ≤ length s
+
+abbrev μ-loop : tie.MeasureT-loop
+μ-loop s k from₀ left₀ from left = left
+
+loop-holds : tie.Need-loop-holds Inv-loop μ-loop
+loop-holds c = search needs
+
+find-requires : tie.Need-find-requires Inv-loop μ-loop
+find-requires c κs = search needs
+
+returns : tie.Need-returns Inv-loop μ-loop
+returns c = search needs
+
+add-from : tie.Need-add-from Inv-loop μ-loop
+add-from c = search needs
+
+sub-left : tie.Need-sub-left Inv-loop μ-loop
+sub-left c = search needs
+
+loop-less : tie.Need-loop-less Inv-loop μ-loop
+loop-less c = search needs
+
+loop-again : tie.Need-loop-again Inv-loop μ-loop
+loop-again c = search needs
+
+returns-2 : tie.Need-returns-2 Inv-loop μ-loop
+returns-2 c = search needs
+
+pub field-start-spec : {M : Type 1} → statement M
+field-start-spec =
+    tie.close
+    (tie.spec
+    Inv-loop
+    μ-loop
+    loop-holds
+    find-requires
+    returns
+    add-from
+    sub-left
+    loop-less
+    loop-again
+    returns-2)
