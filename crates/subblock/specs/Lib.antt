@@ -1,0 +1,14 @@
+pub mod Packing
+pub mod PackingLaws
+pub mod PlacesAgree
+pub mod PlacesLaws
+pub mod GreaterAgree
+pub mod GreaterLaws
+pub mod LevelsAgree
+pub mod DueLaws
+pub mod BehindLaws
+pub mod SpotLaws
+pub mod SignLaws
+pub mod LevelLaws
+pub mod CoeffsAgree
+pub mod CoeffsLaws
