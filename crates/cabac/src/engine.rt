@@ -38,7 +38,7 @@ pub enum Bins {
     Refused(u32),
 }
 
-fn payload_refusal(bytes: &[u8]) -> u32
+pub fn payload_refusal(bytes: &[u8]) -> u32
     ensures { λ r. ⌜ r ≡ payloadRefusal (now (bytes .entry)) ⌝ }
 {
     if bytes.len() < 2 {
@@ -50,7 +50,7 @@ fn payload_refusal(bytes: &[u8]) -> u32
     0
 }
 
-fn state_refusal(bytes: &[u8], e: Engine) -> u32
+pub fn state_refusal(bytes: &[u8], e: Engine) -> u32
     requires { ⌜ length (now bytes) ≤ 16777216 ⌝ }
     ensures { λ r. ⌜ r ≡ stateRefusal (now (bytes .entry)) e ⌝ }
 {

@@ -1,0 +1,418 @@
+-- The entry points' checks, the places that they clear, and each way out of them. Assumes nothing.
+use Prim.Native.Nat.{ℕ, zero, suc, _+_, _^_, _≤_, _<_}
+use mathlib.Core.Path.{_≡_, refl, sym, ap, subst, _∙_}
+use mathlib.Core.Bool.{Bool, true, false, _&&_, cond}
+use mathlib.Core.List.{List, [], _∷_, _++_}
+use native.Mathlib.Omega.{arith}
+use native.Mathlib.Numerals.{add-one}
+use lib.IntN.{ℤ, pos}
+use lib.ListN.{length, getD, set, take, drop, replicate, length-replicate, drop-of-length-le}
+use lib.Seq.{drop-cons, set-append-seam, take-append-seam, drop-append-seam}
+use lib.Dec.{ltb, leb}
+use borrow.Author.Tests.{ltb-true, ltb-false, leb-true, leb-false, lt-ltb, le-ltb, lt-leb, le-leb}
+use Rattle.bins.specs.declared.state.Engine.{Engine}
+use Rattle.bins.specs.declared.state.Interval.{Interval}
+use Rattle.bins.specs.Bits.{ends}
+use Rattle.bins.specs.Engine.{place}
+use Rattle.bins.specs.Interval.{opened, settled, placeOf, Goes}
+use Rattle.bins.specs.Syn.{Out, Reading, run, byEngine, byList}
+use Rattle.bins.specs.Sources.{Cursor, cursor, byCode}
+use Rattle.bins.specs.Laws.{RefusedBy, mapOut}
+use Rattle.bins.specs.CodeLaws.{Packed}
+use Rattle.bins.specs.EngineRuns.{runs-goes}
+use Rattle.bins.specs.Settled.{seen, run-opened}
+use Rattle.bins.specs.Listed.{left, run-listed}
+use Rattle.cabac.specs.Numbers.{accepted, refused, _orElse_, payloadRefusal, stateRefusal, contextRefusal, endedRefusal}
+use Rattle.cabac.specs.NumberLaws.{or-else-first, or-else-rest, or-else-zero, payload-passed, state-fits, state-runs}
+use Rattle.residual.specs.declared.params.Params.{Params}
+use Rattle.residual.specs.Wanted.{area}
+use Rattle.residual.specs.Residual.{Block, residual}
+use Rattle.residual.specs.Numbers.{withinLimits, parameterRefusal, contextsRefusal, statisticRefusal, statisticsRefusal}
+use Rattle.residual.specs.Entries.{PayloadRead, BinsRead, blockWith, cleared, readByEngine, readPayloadBy, readPayload, readFromList, readBinsBy, readBins}
+use Rattle.elements.specs.Agree.{Reads, from, reads-on}
+use Rattle.subblock.specs.CoeffsAgree.{Statistics}
+use Rattle.reader.specs.declared.block.Found.{Found}
+use Rattle.reader.specs.declared.block.Blocked.{Blocked}
+use Rattle.reader.specs.declared.block.Blocked.the-variants as blocked
+use Rattle.reader.specs.declared.entries.Read.the-variants as read
+use Rattle.reader.specs.declared.entries.ReadList.the-variants as readlist
+use Rattle.reader.specs.BlockAgree.{Accepted, blockOf, SaysBlock}
+use Rattle.reader.specs.EntriesAgree.{foundSeen, payloadRead, binsRead, payloadChecks, binsChecks, aboveRefusal, blockedNo, SaysInto}
+
+-- ---- 4
+module _ (p : Params) (block : List ℤ) where
+  pub parameter-small : p .log2 < 2 → 4 ≡ parameterRefusal p block
+  unfolding parameterRefusal withinLimits
+  parameter-small h = rw (lt-leb 2 (p .log2) h)
+
+  pub parameter-large : 2 ≤ p .log2 → 5 < p .log2 → 4 ≡ parameterRefusal p block
+  unfolding parameterRefusal withinLimits
+  parameter-large a h = rw (le-leb 2 (p .log2) a, lt-leb (p .log2) 5 h)
+
+  module _ (a : 2 ≤ p .log2) (b : p .log2 ≤ 5) where
+    pub parameter-scan : 2 < p .scan → 4 ≡ parameterRefusal p block
+    unfolding parameterRefusal withinLimits
+    parameter-scan h = rw (le-leb 2 (p .log2) a, le-leb (p .log2) 5 b, lt-leb (p .scan) 2 h)
+
+    pub parameter-shallow : p .scan ≤ 2 → p .depth < 8 → 4 ≡ parameterRefusal p block
+    unfolding parameterRefusal withinLimits
+    parameter-shallow c h = rw (le-leb 2 (p .log2) a, le-leb (p .log2) 5 b, le-leb (p .scan) 2 c, lt-leb 8 (p .depth) h)
+
+    pub parameter-deep : p .scan ≤ 2 → 8 ≤ p .depth → 16 < p .depth → 4 ≡ parameterRefusal p block
+    unfolding parameterRefusal withinLimits
+    parameter-deep c d h = rw (le-leb 2 (p .log2) a, le-leb (p .log2) 5 b, le-leb (p .scan) 2 c, le-leb 8 (p .depth) d, lt-leb (p .depth) 16 h)
+
+    module _ (c : p .scan ≤ 2) (d : 8 ≤ p .depth) (e : p .depth ≤ 16) (n : ℕ) (q : n ≡ area p) where
+      pub parameter-short : length block < n → 4 ≡ parameterRefusal p block
+      unfolding parameterRefusal withinLimits
+      parameter-short h =
+          let k : length block < area p = subst (λ m. length block < m) q h in
+          rw (le-leb 2 (p .log2) a, le-leb (p .log2) 5 b, le-leb (p .scan) 2 c, le-leb 8 (p .depth) d, le-leb (p .depth) 16 e, lt-leb (area p) (length block) k)
+
+      pub parameter-fine : n ≤ length block → 0 ≡ parameterRefusal p block
+      unfolding parameterRefusal withinLimits
+      parameter-fine h =
+          let k : area p ≤ length block = subst (λ m. m ≤ length block) q h in
+          rw (le-leb 2 (p .log2) a, le-leb (p .log2) 5 b, le-leb (p .scan) 2 c, le-leb 8 (p .depth) d, le-leb (p .depth) 16 e, le-leb (area p) (length block) k)
+
+  pub parameter-passed : 0 ≡ parameterRefusal p block → Accepted p × (area p ≤ length block)
+  unfolding parameterRefusal withinLimits
+  parameter-passed z = go (leb 2 (p .log2)) refl (leb (p .log2) 5) refl (leb (p .scan) 2) refl (leb 8 (p .depth)) refl (leb (p .depth) 16) refl (leb (area p) (length block)) refl z
+    where
+      go : (a : Bool) → leb 2 (p .log2) ≡ a → (b : Bool) → leb (p .log2) 5 ≡ b → (c : Bool) → leb (p .scan) 2 ≡ c → (d : Bool) → leb 8 (p .depth) ≡ d
+          → (e : Bool) → leb (p .depth) 16 ≡ e → (f : Bool) → leb (area p) (length block) ≡ f
+          → _≡_ {A = ℕ} 0 (cond (a && (b && (c && (d && (e && f))))) 0 4) → Accepted p × (area p ≤ length block)
+      go true qa true qb true qc true qd true qe true qf z =
+          (record { least = leb-true 2 (p .log2) qa; most = leb-true (p .log2) 5 qb; scan = leb-true (p .scan) 2 qc; depth = leb-true (p .depth) 16 qe }, leb-true (area p) (length block) qf)
+      go true qa true qb true qc true qd true qe false qf z = absurd (omega arith)
+      go true qa true qb true qc true qd false qe f qf z = absurd (omega arith)
+      go true qa true qb true qc false qd e qe f qf z = absurd (omega arith)
+      go true qa true qb false qc d qd e qe f qf z = absurd (omega arith)
+      go true qa false qb c qc d qd e qe f qf z = absurd (omega arith)
+      go false qa b qb c qc d qd e qe f qf z = absurd (omega arith)
+
+-- ---- n·n of an accepted size
+pub area-two : (n : ℕ) → n ≡ 2 → 16 ≡ 4 ^ n
+area-two n q = ap (λ k. 4 ^ k) (sym q)
+
+pub area-three : (n : ℕ) → n ≡ 3 → 64 ≡ 4 ^ n
+area-three n q = ap (λ k. 4 ^ k) (sym q)
+
+pub area-four : (n : ℕ) → n ≡ 4 → 256 ≡ 4 ^ n
+area-four n q = ap (λ k. 4 ^ k) (sym q)
+
+pub area-five : (n : ℕ) → (2 ≤ n) × (n ≤ 5) → (n ≡ 2 → ⊥) → (n ≡ 3 → ⊥) → (n ≡ 4 → ⊥) → 1024 ≡ 4 ^ n
+area-five n h a b c = let q : 5 ≡ n = omega arith in ap (λ k. 4 ^ k) q
+
+-- ---- 3, of bytes
+above-fine : (m b : ℕ) (l : List ℕ) → b ≤ m → aboveRefusal m (b ∷ l) ≡ aboveRefusal m l
+unfolding aboveRefusal _orElse_
+above-fine m b l h = rw (le-ltb m b h)
+
+above-over : (m b : ℕ) (l : List ℕ) → m < b → aboveRefusal m (b ∷ l) ≡ 3
+unfolding aboveRefusal _orElse_
+above-over m b l h = rw (lt-ltb m b h)
+
+module _ (m : ℕ) (l : List ℕ) where
+  pub above-on : (i : ℕ) → i < length l → getD l i 0 ≤ m → aboveRefusal m (drop i l) ≡ aboveRefusal m l → aboveRefusal m (drop (i + 1) l) ≡ aboveRefusal m l
+  above-on i h k q =
+      let d : drop i l ≡ getD l i 0 ∷ drop (suc i) l = drop-cons l i 0 h in
+      let s : aboveRefusal m (drop (suc i) l) ≡ aboveRefusal m l = sym (above-fine m (getD l i 0) (drop (suc i) l) k) ∙ ap (aboveRefusal m) (sym d) ∙ q in
+      rw (add-one i) s
+
+  pub above-high : (i : ℕ) → i < length l → m < getD l i 0 → aboveRefusal m (drop i l) ≡ aboveRefusal m l → 3 ≡ aboveRefusal m l
+  above-high i h k q = sym (above-over m (getD l i 0) (drop (suc i) l) k) ∙ ap (aboveRefusal m) (sym (drop-cons l i 0 h)) ∙ q
+
+  pub above-ends : (i : ℕ) → length l ≤ i → aboveRefusal m (drop i l) ≡ aboveRefusal m l → 0 ≡ aboveRefusal m l
+  unfolding aboveRefusal
+  above-ends i h q = let d : drop i l ≡ [] = drop-of-length-le l h in sym (ap (aboveRefusal m) d) ∙ q
+
+pub above-contexts : (l : List ℕ) → aboveRefusal 127 l ≡ contextsRefusal l
+unfolding aboveRefusal contextsRefusal contextRefusal
+above-contexts [] = refl
+above-contexts (c ∷ l) = ap (λ n. cond (ltb 127 c) 3 0 orElse n) (above-contexts l)
+
+pub above-statistics : (l : List ℕ) → aboveRefusal 84 l ≡ statisticsRefusal l
+unfolding aboveRefusal statisticsRefusal statisticRefusal
+above-statistics [] = refl
+above-statistics (s ∷ l) = ap (λ n. cond (ltb 84 s) 3 0 orElse n) (above-statistics l)
+
+above-passed : (m : ℕ) (l : List ℕ) → 0 ≡ aboveRefusal m l → (i : ℕ) → getD l i 0 ≤ m
+unfolding aboveRefusal
+above-passed m [] q i = omega arith
+above-passed m (b ∷ l) q zero =
+    let z = or-else-zero (cond (ltb m b) 3 0) (aboveRefusal m l) q in
+    go (ltb m b) refl (z .0)
+  where
+    go : (a : Bool) → ltb m b ≡ a → _≡_ {A = ℕ} 0 (cond a 3 0) → b ≤ m
+    go true u z = absurd (omega arith)
+    go false u z = ltb-false m b u
+above-passed m (b ∷ l) q (suc i) = above-passed m l (or-else-zero (cond (ltb m b) 3 0) (aboveRefusal m l) q .1) i
+
+pub contexts-packed : (l : List ℕ) → 0 ≡ contextsRefusal l → Packed l
+contexts-packed l q i = let h = above-passed 127 l (q ∙ sym (above-contexts l)) i in omega arith
+
+pub statistics-passed : (l : List ℕ) → 0 ≡ statisticsRefusal l → Statistics l
+statistics-passed l q i = above-passed 84 l (q ∙ sym (above-statistics l)) i
+
+pub zeros-packed : (n : ℕ) → Packed (replicate n 0)
+zeros-packed zero i = omega arith
+zeros-packed (suc n) zero = omega arith
+zeros-packed (suc n) (suc i) = zeros-packed n i
+
+-- ---- places cleared
+again : {A : Type 0} (i : ℕ) (a : A) (l : List A) → replicate i a ++ (a ∷ l) ≡ a ∷ (replicate i a ++ l)
+again zero a l = refl
+again (suc i) a l = ap (λ (r : List _). a ∷ r) (again i a l)
+
+pub clear-more : (b now : List ℤ) (i : ℕ) → i < length b → now ≡ replicate i (pos 0) ++ drop i b → set now i (pos 0) ≡ replicate (i + 1) (pos 0) ++ drop (i + 1) b
+clear-more b now i h q =
+    let z = pos 0 in
+    let y = getD b i z in
+    let r = drop (suc i) b in
+    let d : drop i b ≡ y ∷ r = drop-cons b i z h in
+    let e : now ≡ replicate i z ++ (y ∷ r) = q ∙ ap (λ (t : List ℤ). replicate i z ++ t) d in
+    let s : set (replicate i z ++ (y ∷ r)) i z ≡ replicate i z ++ (z ∷ r) =
+    subst (λ k. set (replicate i z ++ (y ∷ r)) k z ≡ replicate i z ++ (z ∷ r)) (length-replicate i z) (set-append-seam (replicate i z) y r z) in
+    let t : set now i z ≡ replicate (suc i) z ++ r = ap (λ (t : List ℤ). set t i z) e ∙ s ∙ again i z r in
+    rw (add-one i) t
+
+-- the front and the rest of a lent block
+module _ (n : ℕ) (front rest : List ℤ) (h : length front ≡ n) where
+  front-of : take n (front ++ rest) ≡ front
+  front-of = subst (λ k. take k (front ++ rest) ≡ front) h (take-append-seam front rest)
+
+  rest-of : drop n (front ++ rest) ≡ rest
+  rest-of = subst (λ k. drop k (front ++ rest) ≡ rest) h (drop-append-seam front rest)
+
+-- block is the lent one, zeros the one cleared, read the one with levels in its front
+module _ (p : Params) (n : ℕ) (q : n ≡ area p) (block zeros : List ℤ) (c : zeros ≡ replicate n (pos 0) ++ drop n block) where
+  pub front-zeros : take n zeros ≡ replicate (area p) (pos 0)
+  front-zeros = ap (λ (l : List ℤ). take n l) c ∙ front-of n (replicate n (pos 0)) (drop n block) (length-replicate n (pos 0)) ∙ ap (λ k. replicate k (pos 0)) q
+
+  pub front-room : n ≡ length (take n zeros)
+  front-room = sym (ap (λ (l : List ℤ). length l) front-zeros ∙ length-replicate (area p) (pos 0) ∙ sym q)
+
+  rest-same : drop n zeros ≡ drop (area p) block
+  rest-same = ap (λ (l : List ℤ). drop n l) c ∙ rest-of n (replicate n (pos 0)) (drop n block) (length-replicate n (pos 0)) ∙ ap (λ k. drop k block) q
+
+  pub read-with : (levels : List ℤ) → levels ++ drop n zeros ≡ blockWith p levels block
+  read-with levels = ap (λ (l : List ℤ). levels ++ l) rest-same
+
+pub cleared-again : (p : Params) (n : ℕ) → n ≡ area p → (block levels now last : List ℤ) → length levels ≡ area p → now ≡ blockWith p levels block
+    → last ≡ replicate n (pos 0) ++ drop n now → last ≡ cleared p block
+cleared-again p n q block levels now last h e c =
+    let d : drop n now ≡ drop (area p) block = ap (λ (l : List ℤ). drop n l) e ∙ rest-of n levels (drop (area p) block) (h ∙ sym q) in
+    c ∙ ap (λ (l : List ℤ). replicate n (pos 0) ++ l) d ∙ ap (λ k. replicate k (pos 0) ++ drop (area p) block) q
+
+-- ---- a block into the front of a lent one
+module _ (p : Params) (list : Bool) (l : List ℕ) (x : Interval) (cs stats : List ℕ) (block : List ℤ) (r : Blocked) (cs′ : List ℕ) (levels : List ℤ) (stats′ : List ℕ)
+    (s : SaysBlock p list l x cs stats r cs′ levels stats′) (h : length levels ≡ area p) where
+  pub into-got : (f : Found) (y : Interval) → r ≡ blocked.Got f y → (block′ : List ℤ) → block′ ≡ blockWith p levels block → SaysInto p list l x cs stats block r cs′ stats′ block′
+  into-got f y q block′ e =
+      subst (λ (z : Blocked). SaysInto p list l x cs stats block z cs′ stats′ block′) (sym q)
+      (levels, h, e, subst (λ (z : Blocked). SaysBlock p list l x cs stats z cs′ levels stats′) q s)
+
+  pub into-refused : (n : ℕ) → r ≡ blocked.Refused n → (block′ : List ℤ) → block′ ≡ cleared p block → SaysInto p list l x cs stats block r cs stats block′
+  into-refused n q block′ e =
+      subst (λ (z : Blocked). SaysInto p list l x cs stats block z cs stats block′) (sym q)
+      (subst (λ (z : Blocked). SaysBlock p list l x cs stats z cs′ levels stats′) q s, refl, refl, e)
+
+pub blocked-number : (r : Blocked) (m n : ℕ) → r ≡ blocked.Refused m → n ≡ blockedNo r → r ≡ blocked.Refused n
+blocked-number r m n q e = q ∙ ap blocked.Refused (sym (e ∙ ap blockedNo q))
+
+-- ---- 6
+not-ended : (e : Engine) (b : Bool) → e .ended ≡ b → 0 ≡ endedRefusal e → e .ended ≡ false
+unfolding endedRefusal
+not-ended e true u z = let y : _≡_ {A = ℕ} 0 6 = rw u at z in absurd (omega arith)
+not-ended e false u z = u
+
+-- ---- a payload
+pub record Passed (l : List ℕ) (e : Engine) (contexts stats : List ℕ) (p : Params) (block : List ℤ) : Type 0 where
+  pub short : length l ≤ 16777216
+  pub fits : place e ≤ ends l
+  pub goes : Goes l (opened e)
+  pub packed : Packed contexts
+  pub statistics : Statistics stats
+  pub accepted : Accepted p
+  pub room : area p ≤ length block
+
+module _ (l : List ℕ) (e : Engine) (contexts stats : List ℕ) (p : Params) (block : List ℤ) where
+  -- the checks' ways out
+  abbrev c₁ : ℕ
+  c₁ = payloadRefusal l
+
+  abbrev c₂ : ℕ
+  c₂ = parameterRefusal p block
+
+  abbrev c₃ : ℕ
+  c₃ = stateRefusal l e
+
+  abbrev c₄ : ℕ
+  c₄ = contextsRefusal contexts
+
+  abbrev c₅ : ℕ
+  c₅ = statisticsRefusal stats
+
+  abbrev c₆ : ℕ
+  c₆ = endedRefusal e
+
+  abbrev all : ℕ
+  all = payloadChecks l e contexts stats p block
+
+  pub checks-one : (n : ℕ) → n ≡ payloadRefusal l → (n ≡ 0 → ⊥) → n ≡ payloadChecks l e contexts stats p block
+  checks-one n q h = or-else-first n c₁ (c₂ orElse c₃ orElse c₄ orElse c₅ orElse c₆) q h
+
+  module _ (z₁ : 0 ≡ payloadRefusal l) where
+    pub checks-two : (n : ℕ) → n ≡ parameterRefusal p block → (n ≡ 0 → ⊥) → n ≡ payloadChecks l e contexts stats p block
+    checks-two n q h = or-else-rest n c₁ _ z₁ (or-else-first n c₂ (c₃ orElse c₄ orElse c₅ orElse c₆) q h)
+
+    module _ (z₂ : 0 ≡ parameterRefusal p block) where
+      pub checks-three : (n : ℕ) → n ≡ stateRefusal l e → (n ≡ 0 → ⊥) → n ≡ payloadChecks l e contexts stats p block
+      checks-three n q h = or-else-rest n c₁ _ z₁ (or-else-rest n c₂ _ z₂ (or-else-first n c₃ (c₄ orElse c₅ orElse c₆) q h))
+
+      module _ (z₃ : 0 ≡ stateRefusal l e) where
+        pub checks-four : (n : ℕ) → n ≡ aboveRefusal 127 contexts → (n ≡ 0 → ⊥) → n ≡ payloadChecks l e contexts stats p block
+        checks-four n q h = or-else-rest n c₁ _ z₁ (or-else-rest n c₂ _ z₂ (or-else-rest n c₃ _ z₃ (or-else-first n c₄ (c₅ orElse c₆) (q ∙ above-contexts contexts) h)))
+
+        module _ (z₄ : 0 ≡ aboveRefusal 127 contexts) where
+          pub checks-five : (n : ℕ) → n ≡ aboveRefusal 84 stats → (n ≡ 0 → ⊥) → n ≡ payloadChecks l e contexts stats p block
+          checks-five n q h =
+              or-else-rest n c₁ _ z₁ (or-else-rest n c₂ _ z₂ (or-else-rest n c₃ _ z₃ (or-else-rest n c₄ _ (z₄ ∙ above-contexts contexts) (or-else-first n c₅ c₆ (q ∙ above-statistics stats) h))))
+
+          pub checks-six : 0 ≡ aboveRefusal 84 stats → (n : ℕ) → n ≡ endedRefusal e → n ≡ payloadChecks l e contexts stats p block
+          checks-six z₅ n q =
+              or-else-rest n c₁ _ z₁ (or-else-rest n c₂ _ z₂ (or-else-rest n c₃ _ z₃ (or-else-rest n c₄ _ (z₄ ∙ above-contexts contexts) (or-else-rest n c₅ c₆ (z₅ ∙ above-statistics stats) q))))
+
+  pub payload-no : (n : ℕ) → n ≡ payloadChecks l e contexts stats p block → (n ≡ 0 → ⊥) → payloadRead (read.Refused n) contexts stats block ≡ readPayload l e contexts stats p block
+  unfolding readPayload
+  payload-no n q h = go all q
+    where
+      go : (k : ℕ) → n ≡ k → payloadRead (read.Refused n) contexts stats block ≡ readPayloadBy k l e contexts stats p block
+      go zero u = absurd (h u)
+      go (suc k) u = unfold readPayloadBy in ap (λ m. payloadRead (read.Refused m) contexts stats block) u
+
+  module _ (q : 0 ≡ payloadChecks l e contexts stats p block) where
+    pub checks-passed : Passed l e contexts stats p block
+    checks-passed =
+        let a = or-else-zero c₁ (c₂ orElse c₃ orElse c₄ orElse c₅ orElse c₆) q in
+        let b = or-else-zero c₂ (c₃ orElse c₄ orElse c₅ orElse c₆) (a .1) in
+        let c = or-else-zero c₃ (c₄ orElse c₅ orElse c₆) (b .1) in
+        let d = or-else-zero c₄ (c₅ orElse c₆) (c .1) in
+        let f = or-else-zero c₅ c₆ (d .1) in
+        let g = parameter-passed p block (b .0) in
+        record {
+          short = payload-passed l (a .0);
+          fits = state-fits l e (c .0);
+          goes = runs-goes l e (state-runs l e (a .0) (c .0) (not-ended e (e .ended) refl (f .1)));
+          packed = contexts-packed contexts (d .0);
+          statistics = statistics-passed stats (f .0);
+          accepted = g .0;
+          room = g .1;
+        }
+
+    left-to-read : readPayload l e contexts stats p block ≡ readByEngine p contexts stats block (mapOut (seen l e) (from false l (residual p stats) (opened e) contexts))
+    unfolding readPayload
+    left-to-read =
+        ap (λ n. readPayloadBy n l e contexts stats p block) (sym q)
+        ∙ unfold readPayloadBy in ap (readByEngine p contexts stats block) (run-opened l e (residual p stats) contexts (checks-passed .fits))
+
+    -- r is what the reading into the block answered
+    module _ (r : Blocked) (contexts′ stats′ : List ℕ) (block′ : List ℤ) (s : SaysInto p false l (opened e) contexts stats block r contexts′ stats′ block′) where
+      pub payload-refused : (n : ℕ) → r ≡ blocked.Refused n → payloadRead (read.Refused n) contexts′ stats′ block′ ≡ readPayload l e contexts stats p block
+      unfolding readByEngine
+      payload-refused n u =
+          let w = subst (λ (z : Blocked). SaysInto p false l (opened e) contexts stats block z contexts′ stats′ block′) u s in
+          let a : payloadRead (read.Refused n) contexts′ stats′ block′ ≡ payloadRead (read.Refused n) contexts stats (cleared p block) = rw (w .1, w .2, w .3) in
+          let b : readByEngine p contexts stats block (mapOut (seen l e) (from false l (residual p stats) (opened e) contexts)) ≡ payloadRead (read.Refused n) contexts stats (cleared p block) =
+          ap (λ (o : Out Cursor Block). readByEngine p contexts stats block (mapOut (seen l e) o)) (w .0 .1) in
+          a ∙ sym b ∙ sym left-to-read
+
+      pub payload-got : (f : Found) (y : Interval) → r ≡ blocked.Got f y → (d : Engine) → d ≡ settled l e y
+          → payloadRead (read.Block f d) contexts′ stats′ block′ ≡ readPayload l e contexts stats p block
+      unfolding readByEngine
+      payload-got f y u d v =
+          let w = subst (λ (z : Blocked). SaysInto p false l (opened e) contexts stats block z contexts′ stats′ block′) u s in
+          let a : payloadRead (read.Block f d) contexts′ stats′ block′ ≡ payloadRead (read.Block f (settled l e y)) contexts′ stats′ (blockWith p (w .0) block) =
+          ap (λ (t : Engine). payloadRead (read.Block f t) contexts′ stats′ block′) v ∙ ap (λ (z : List ℤ). payloadRead (read.Block f (settled l e y)) contexts′ stats′ z) (w .2) in
+          let b : readByEngine p contexts stats block (mapOut (seen l e) (from false l (residual p stats) (opened e) contexts)) ≡ payloadRead (read.Block f (settled l e y)) contexts′ stats′ (blockWith p (w .0) block) =
+          ap (λ (o : Out Cursor Block). readByEngine p contexts stats block (mapOut (seen l e) o)) (w .3) in
+          a ∙ sym b ∙ sym left-to-read
+
+-- ---- a bin list
+pub record BinsPassed (stats : List ℕ) (p : Params) (block : List ℤ) : Type 0 where
+  pub statistics : Statistics stats
+  pub accepted : Accepted p
+  pub room : area p ≤ length block
+
+module _ (stats : List ℕ) (p : Params) (block : List ℤ) where
+  pub bins-first : (n : ℕ) → n ≡ parameterRefusal p block → (n ≡ 0 → ⊥) → n ≡ binsChecks stats p block
+  bins-first n q h = or-else-first n (parameterRefusal p block) (statisticsRefusal stats) q h
+
+  pub bins-second : 0 ≡ parameterRefusal p block → (n : ℕ) → n ≡ aboveRefusal 84 stats → n ≡ binsChecks stats p block
+  bins-second z n q = or-else-rest n (parameterRefusal p block) (statisticsRefusal stats) z (q ∙ above-statistics stats)
+
+module _ (l : List ℕ) (stats : List ℕ) (p : Params) (block : List ℤ) where
+  pub bins-no : (n : ℕ) → n ≡ binsChecks stats p block → (n ≡ 0 → ⊥) → binsRead (readlist.Refused n) stats block ≡ readBins l stats p block
+  unfolding readBins
+  bins-no n q h = go (binsChecks stats p block) q
+    where
+      go : (k : ℕ) → n ≡ k → binsRead (readlist.Refused n) stats block ≡ readBinsBy k l stats p block
+      go zero u = absurd (h u)
+      go (suc k) u = unfold readBinsBy in ap (λ m. binsRead (readlist.Refused m) stats block) u
+
+  module _ (q : 0 ≡ binsChecks stats p block) where
+    pub bins-passed : BinsPassed stats p block
+    bins-passed =
+        let a = or-else-zero (parameterRefusal p block) (statisticsRefusal stats) q in
+        let g = parameter-passed p block (a .0) in
+        record { statistics = statistics-passed stats (a .1); accepted = g .0; room = g .1 }
+
+    module _ (x : Interval) (front : placeOf x ≡ 0) (contexts : List ℕ) where
+      list-to-read : readBins l stats p block ≡ readFromList p stats block (mapOut (left l) (from true l (residual p stats) x contexts))
+      unfolding readBins readBinsBy
+      list-to-read =
+          let w : run byList (residual p stats) l ≡ mapOut (left l) (from true l (residual p stats) x contexts) =
+          ap (λ k. run byList (residual p stats) (drop k l)) (sym front) ∙ run-listed l (residual p stats) x contexts in
+          ap (λ n. readBinsBy n l stats p block) (sym q) ∙ ap (readFromList p stats block) w
+
+      module _ (r : Blocked) (contexts′ stats′ : List ℕ) (block′ : List ℤ) (s : SaysInto p true l x contexts stats block r contexts′ stats′ block′) where
+        abbrev Into : Blocked → Type 0
+        Into z = SaysInto p true l x contexts stats block z contexts′ stats′ block′
+
+        pub bins-refused : (n : ℕ) → r ≡ blocked.Refused n → binsRead (readlist.Refused n) stats block′ ≡ readBins l stats p block
+        unfolding readFromList
+        bins-refused n u =
+            let w = subst (λ (z : Blocked). Into z) u s in
+            let a : binsRead (readlist.Refused n) stats block′ ≡ binsRead (readlist.Refused n) stats (cleared p block) = ap (λ (z : List ℤ). binsRead (readlist.Refused n) stats z) (w .3) in
+            let b : readFromList p stats block (mapOut (left l) (from true l (residual p stats) x contexts)) ≡ binsRead (readlist.Refused n) stats (cleared p block) =
+            ap (λ (o : Out Cursor Block). readFromList p stats block (mapOut (left l) o)) (w .0 .1) in
+            a ∙ sym b ∙ sym list-to-read
+
+        module _ (f : Found) (y : Interval) (u : r ≡ blocked.Got f y) where
+          w : Into (blocked.Got f y)
+          w = subst (λ (z : Blocked). Into z) u s
+
+          got : readBins l stats p block ≡ readFromList p stats block (Out.ok (blockOf f (w .0) stats′) (drop (placeOf y) l))
+          got = list-to-read ∙ ap (λ (o : Out Cursor Block). readFromList p stats block (mapOut (left l) o)) (w .3)
+
+          pub bins-got : placeOf y ≡ length l → binsRead (readlist.Block f) stats′ block′ ≡ readBins l stats p block
+          unfolding readFromList
+          bins-got h =
+              let d : drop (placeOf y) l ≡ [] = drop-of-length-le l {i = placeOf y} (omega arith) in
+              let a : binsRead (readlist.Block f) stats′ block′ ≡ binsRead (readlist.Block f) stats′ (blockWith p (w .0) block) = ap (λ (z : List ℤ). binsRead (readlist.Block f) stats′ z) (w .2) in
+              let b : readFromList p stats block (Out.ok (blockOf f (w .0) stats′) (drop (placeOf y) l)) ≡ binsRead (readlist.Block f) stats′ (blockWith p (w .0) block) =
+              ap (λ (z : List ℕ). readFromList p stats block (Out.ok (blockOf f (w .0) stats′) z)) d in
+              a ∙ sym b ∙ sym got
+
+          pub bins-over : Reads true l x contexts → (placeOf y ≡ length l → ⊥) → (n : ℕ) → n ≡ area p → (last : List ℤ) → last ≡ replicate n (pos 0) ++ drop n block′
+              → binsRead (readlist.Refused 13) stats last ≡ readBins l stats p block
+          unfolding readFromList
+          bins-over g h n e last c =
+              let k : placeOf y ≤ length l = reads-on true l (residual p stats) x contexts (blockOf f (w .0) stats′) y contexts′ (w .3) g .0 in
+              let d : drop (placeOf y) l ≡ getD l (placeOf y) 0 ∷ drop (suc (placeOf y)) l = drop-cons l (placeOf y) 0 (omega arith) in
+              let a : binsRead (readlist.Refused 13) stats last ≡ binsRead (readlist.Refused 13) stats (cleared p block) =
+              ap (λ (z : List ℤ). binsRead (readlist.Refused 13) stats z) (cleared-again p n e block (w .0) block′ last (w .1) (w .2) c) in
+              let b : readFromList p stats block (Out.ok (blockOf f (w .0) stats′) (drop (placeOf y) l)) ≡ binsRead (readlist.Refused 13) stats (cleared p block) =
+              ap (λ (z : List ℕ). readFromList p stats block (Out.ok (blockOf f (w .0) stats′) z)) d in
+              a ∙ sym b ∙ sym got

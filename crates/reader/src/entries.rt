@@ -1,0 +1,238 @@
+// The two entry points: a block from a payload, and a block from a bin list.
+// Each takes anything: what document 01 does not accept is answered by its number.
+use crate::block::Blocked;
+use crate::block::Found;
+use crate::block::read_block;
+use bins::places::BitPlace;
+use bins::state::Engine;
+use bins::state::Interval;
+use cabac::engine::open;
+use cabac::engine::payload_refusal;
+use cabac::engine::settle;
+use cabac::engine::state_refusal;
+use residual::params::Params;
+use tables::decision_table;
+ghost use mathlib.Core.Path.{_≡_};
+ghost use mathlib.Core.List.{_++_};
+ghost use Prim.Native.Nat.{_^_, _≤_};
+ghost use lib.ListN.{length, drop, replicate};
+ghost use lib.IntN.{pos};
+ghost use Rattle.residual.specs.Wanted.{area};
+ghost use Rattle.residual.specs.Numbers.{parameterRefusal};
+ghost use Rattle.residual.specs.Entries.{readPayload, readBins};
+ghost use Rattle.elements.specs.Agree.{Reads};
+ghost use Rattle.subblock.specs.CoeffsAgree.{Statistics};
+ghost use Rattle.reader.specs.BlockAgree.{Accepted};
+ghost use Rattle.reader.specs.EntriesAgree.{payloadRead, binsRead, payloadChecks, binsChecks, aboveRefusal, blockedNo, SaysInto};
+
+// A block with the state behind it, or the number of the refusal.
+pub enum Read {
+    Block(Found, Engine),
+    Refused(u32),
+}
+
+// A block, or the number of the refusal.
+pub enum ReadList {
+    Block(Found),
+    Refused(u32),
+}
+
+// n·n of an accepted size.
+fn area_of(log2: u32) -> usize
+    requires { ⌜ (2 ≤ log2) × (log2 ≤ 5) ⌝ }
+    ensures { λ r. ⌜ r ≡ 4 ^ log2 ⌝ }
+{
+    match log2 {
+        2 => 16,
+        3 => 64,
+        4 => 256,
+        _ => 1024,
+    }
+}
+
+// 4
+fn parameter_refusal(p: Params, block: &[i32]) -> u32
+    ensures { λ r. ⌜ r ≡ parameterRefusal p (now (block .entry)) ⌝ }
+{
+    if p.log2 < 2 {
+        return 4;
+    }
+    if 5 < p.log2 {
+        return 4;
+    }
+    if 2 < p.scan {
+        return 4;
+    }
+    if p.depth < 8 {
+        return 4;
+    }
+    if 16 < p.depth {
+        return 4;
+    }
+    if block.len() < area_of(p.log2) {
+        return 4;
+    }
+    0
+}
+
+// 3, of bytes that are at most `most`
+fn above_refusal(bytes: &[u8], most: u8) -> u32
+    ensures { λ r. ⌜ r ≡ aboveRefusal most (now (bytes .entry)) ⌝ }
+{
+    let mut i: usize = 0;
+    while i < bytes.len() {
+        if most < bytes[i] {
+            return 3;
+        }
+        i += 1;
+    }
+    0
+}
+
+// 1, 2, 4, 3, 6
+fn payload_checks(
+    bytes: &[u8],
+    e: Engine,
+    contexts: &[u8],
+    stats: &[u8],
+    p: Params,
+    block: &[i32],
+) -> u32
+    ensures { λ r. ⌜ r ≡ payloadChecks (now (bytes .entry)) e (now (contexts .entry)) (now (stats .entry)) p (now (block .entry)) ⌝ }
+{
+    let a = payload_refusal(bytes);
+    if a != 0 {
+        return a;
+    }
+    let b = parameter_refusal(p, block);
+    if b != 0 {
+        return b;
+    }
+    let c = state_refusal(bytes, e);
+    if c != 0 {
+        return c;
+    }
+    let d = above_refusal(contexts, 127);
+    if d != 0 {
+        return d;
+    }
+    let f = above_refusal(stats, 84);
+    if f != 0 {
+        return f;
+    }
+    if e.ended {
+        return 6;
+    }
+    0
+}
+
+// 4, 3
+fn bins_checks(stats: &[u8], p: Params, block: &[i32]) -> u32
+    ensures { λ r. ⌜ r ≡ binsChecks (now (stats .entry)) p (now (block .entry)) ⌝ }
+{
+    let a = parameter_refusal(p, block);
+    if a != 0 {
+        return a;
+    }
+    above_refusal(stats, 84)
+}
+
+fn blocked_refusal(r: Blocked) -> u32
+    ensures { λ n. ⌜ n ≡ blockedNo r ⌝ }
+{
+    match r {
+        Blocked::Got(_, _) => 0,
+        Blocked::Refused(n) => n,
+    }
+}
+
+// Zero in the first n places.
+fn clear(block: &mut [i32], n: usize)
+    requires { ⌜ n ≤ length (now block) ⌝ }
+    ensures { λ _. ⌜ now (block .exit) ≡ replicate n (pos 0) ++ drop n (now (block .entry)) ⌝ }
+{
+    let mut i: usize = 0;
+    while i < n {
+        block[i] = 0;
+        i += 1;
+    }
+}
+
+// A block into the first places. Contexts and statistics are copied, and stored again only where the block is accepted.
+fn read_into(
+    list: bool,
+    contexts: &mut [u8; 120],
+    stats: &mut [u8; 4],
+    bytes: &[u8],
+    p: Params,
+    block: &mut [i32],
+    x: Interval,
+) -> Blocked
+    requires { ⌜ Reads list (now bytes) x (now contexts) × Accepted p × (area p ≤ length (now block)) × Statistics (now stats) ⌝ }
+    ensures { λ r. ⌜ SaysInto p list (now (bytes .entry)) x (now (contexts .entry)) (now (stats .entry)) (now (block .entry)) r (now (contexts .exit)) (now (stats .exit)) (now (block .exit)) ⌝ }
+{
+    let table = decision_table();
+    let mut cs = *contexts;
+    let mut st = *stats;
+    let n = area_of(p.log2);
+    clear(block, n);
+    let r = read_block(list, &table, &mut cs, &mut st, bytes, p, &mut block[..n], x);
+    let Blocked::Got(_, _) = r else {
+        clear(block, n);
+        return r;
+    };
+    *contexts = cs;
+    *stats = st;
+    r
+}
+
+// One block from a payload.
+pub fn residual_coding(
+    bytes: &[u8],
+    e: Engine,
+    contexts: &mut [u8; 120],
+    stats: &mut [u8; 4],
+    p: Params,
+    block: &mut [i32],
+) -> Read
+    ensures { λ r. ⌜ payloadRead r (now (contexts .exit)) (now (stats .exit)) (now (block .exit)) ≡ readPayload (now (bytes .entry)) e (now (contexts .entry)) (now (stats .entry)) p (now (block .entry)) ⌝ }
+{
+    let n = payload_checks(bytes, e, contexts, stats, p, block);
+    if n != 0 {
+        return Read::Refused(n);
+    }
+    let r = read_into(false, contexts, stats, bytes, p, block, open(e));
+    let Blocked::Got(found, x) = r else {
+        return Read::Refused(blocked_refusal(r));
+    };
+    let state = settle(bytes, e, x);
+    Read::Block(found, state)
+}
+
+// One block from a bin list, which it must end.
+pub fn read_bins(bytes: &[u8], stats: &mut [u8; 4], p: Params, block: &mut [i32]) -> ReadList
+    ensures { λ r. ⌜ binsRead r (now (stats .exit)) (now (block .exit)) ≡ readBins (now (bytes .entry)) (now (stats .entry)) p (now (block .entry)) ⌝ }
+{
+    let n = bins_checks(stats, p, block);
+    if n != 0 {
+        return ReadList::Refused(n);
+    }
+    let mut contexts = [0u8; 120];
+    let mut st = *stats;
+    let front = Interval {
+        range: 256,
+        offset: 0,
+        at: BitPlace(0),
+    };
+    let r = read_into(true, &mut contexts, &mut st, bytes, p, block, front);
+    let Blocked::Got(found, x) = r else {
+        return ReadList::Refused(blocked_refusal(r));
+    };
+    let at = x.at;
+    if at.0 != bytes.len() {
+        clear(block, area_of(p.log2));
+        return ReadList::Refused(13);
+    }
+    *stats = st;
+    ReadList::Block(found)
+}

@@ -1,0 +1,126 @@
+// An answer, with all that it leaves behind:
+//
+//     payload 0 skip rdpcm column row greatest range offset position ended past levels contexts statistics
+//     payload NUMBER levels contexts statistics
+//     bins 0 skip rdpcm column row greatest levels statistics
+//     bins NUMBER levels statistics
+//
+// Levels are place:level, parted by commas, or a dash: those of the block that are not 0, and those behind it that were changed.
+use bins::state::Engine;
+use reader::block::Found;
+use reader::entries::Read;
+use reader::entries::ReadList;
+use report::write;
+use residual::params::Rdpcm;
+
+// What each place holds before the call.
+pub const BEHIND: i32 = 7;
+
+fn spaced(n: u32) {
+    write::text(b" ");
+    write::decimal32(n);
+}
+
+fn spaced_flag(on: bool) {
+    write::text(b" ");
+    write::flag(on);
+}
+
+fn rdpcm(r: Rdpcm) {
+    match r {
+        Rdpcm::None => write::text(b" -1"),
+        Rdpcm::Horizontal => write::text(b" 0"),
+        Rdpcm::Vertical => write::text(b" 1"),
+    }
+}
+
+fn found(f: Found) {
+    spaced(0);
+    spaced_flag(f.skip);
+    let choice = f.rdpcm;
+    rdpcm(choice);
+    spaced(f.column);
+    spaced(f.row);
+    spaced(f.greatest);
+}
+
+fn state(e: Engine) {
+    spaced(e.range);
+    spaced(e.offset);
+    write::text(b" ");
+    write::count(e.at.0);
+    spaced_flag(e.ended);
+    spaced_flag(e.past);
+}
+
+pub fn payload_answer(r: Read) {
+    match r {
+        Read::Block(f, e) => {
+            found(f);
+            state(e);
+        }
+        Read::Refused(n) => spaced(n),
+    }
+}
+
+pub fn list_answer(r: ReadList) {
+    match r {
+        ReadList::Block(f) => found(f),
+        ReadList::Refused(n) => spaced(n),
+    }
+}
+
+// n·n of an accepted size; no other block is written to.
+fn area(log2: u32) -> usize {
+    match log2 {
+        2 => 16,
+        3 => 64,
+        4 => 256,
+        5 => 1024,
+        _ => 0,
+    }
+}
+
+fn is_shown(place: usize, area: usize, level: i32) -> bool {
+    if place < area {
+        return level != 0;
+    }
+    level != BEHIND
+}
+
+fn level(place: usize, value: i32, first: bool) {
+    if first {
+        write::text(b" ");
+    } else {
+        write::text(b",");
+    }
+    write::count(place);
+    write::text(b":");
+    write::signed(value);
+}
+
+pub fn levels(block: &[i32; 1024], log2: u32) {
+    let n = area(log2);
+    let mut none = true;
+    let mut i: usize = 0;
+    while i < 1024 {
+        if is_shown(i, n, block[i]) {
+            level(i, block[i], none);
+            none = false;
+        }
+        i += 1;
+    }
+    if none {
+        write::text(b" -");
+    }
+}
+
+pub fn contexts(s: &[u8; 120]) {
+    write::text(b" ");
+    write::hex_bytes(s);
+}
+
+pub fn statistics(s: &[u8; 4]) {
+    write::text(b" ");
+    write::hex_bytes(s);
+}

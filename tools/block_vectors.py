@@ -1,0 +1,89 @@
+#!/usr/bin/env python3
+"""Writes what the program replay reads, and what it must write, from the vectors of real streams.
+
+    block_vectors.py VECTORS OUT         a sample, as crates/replay keeps it
+    block_vectors.py VECTORS OUT all     every record
+
+VECTORS has hevc.txt, rext.txt and forced.txt (VECTORS/FORMAT.md); OUT gets the files stdin and stdout.
+
+stdin, a block a line, fields parted by one space, bytes hexadecimal:
+
+    B parameters(14) range offset position payload contexts statistics list
+
+stdout, two lines for each, by the payload reader and by the bin reader:
+
+    payload 0 skip rdpcm column row greatest range offset position ended past levels contexts statistics
+    payload NUMBER levels contexts statistics
+    bins 0 skip rdpcm column row greatest levels statistics
+    bins NUMBER levels statistics
+
+Contexts are 120, the first of the vector's 130.
+"""
+import os
+import sys
+
+FILES = ["hevc.txt", "rext.txt", "forced.txt"]
+# of each choice of parameters the shortest records, so many of each file
+SAMPLE = 2
+
+
+def blocks(folder, name):
+    with open(os.path.join(folder, name), encoding="ascii") as lines:
+        for line in lines:
+            fields = line.rstrip("\n").split(" ")
+            if fields[0] == "B":
+                yield fields
+
+
+def changed(contexts, changes):
+    """The contexts behind the call, hexadecimal."""
+    after = bytearray.fromhex(contexts)
+    if changes != "-":
+        for change in changes.split(","):
+            number, value = change.split(":")
+            after[int(number)] = int(value, 16)
+    return after.hex()
+
+
+def pair(fields):
+    """The line to read and the two lines to write."""
+    parameters, state = fields[2:16], fields[16:19]
+    payload, contexts, statistics, bins = fields[19:23]
+    contexts = contexts[:240]
+    answer, found, levels = fields[23], fields[24:29], fields[29]
+    after, changes, statistics_after = fields[30:33], fields[33], fields[34]
+    line = " ".join(["B", *parameters, *state, payload, contexts, statistics, bins])
+    if answer != "0":
+        return line, [f"payload {answer} - {contexts} {statistics}", f"bins {answer} - {statistics}"]
+    beside = " ".join(found)
+    return line, [
+        f"payload 0 {beside} {' '.join(after)} 0 0 {levels} {changed(contexts, changes)} {statistics_after}",
+        f"bins 0 {beside} {levels} {statistics_after}",
+    ]
+
+
+def sample(records):
+    """The shortest records of each choice of parameters and answer, in the order of the file."""
+    kinds = {}
+    for place, fields in enumerate(records):
+        kinds.setdefault((*fields[2:16], fields[23]), []).append((sum(map(len, fields[19:23])), place))
+    kept = sorted(place for places in kinds.values() for _, place in sorted(places)[:SAMPLE])
+    return [records[place] for place in kept]
+
+
+def main():
+    if len(sys.argv) not in (3, 4):
+        sys.exit(__doc__)
+    folder, out = sys.argv[1:3]
+    pairs = []
+    for name in FILES:
+        records = list(blocks(folder, name))
+        pairs += map(pair, records if len(sys.argv) == 4 else sample(records))
+    with open(os.path.join(out, "stdin"), "w", encoding="ascii") as f:
+        f.writelines(line + "\n" for line, _ in pairs)
+    with open(os.path.join(out, "stdout"), "w", encoding="ascii") as f:
+        f.writelines(text + "\n" for _, texts in pairs for text in texts)
+    print(len(pairs), "records")
+
+
+main()
