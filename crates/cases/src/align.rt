@@ -3,7 +3,6 @@ use crate::states;
 use crate::states::ended;
 use crate::states::live;
 use crate::states::past;
-use crate::tally::Tally;
 use crate::tally::part;
 use crate::tally::state;
 use bins::state::Engine;
@@ -11,6 +10,7 @@ use cabac::engine::State;
 use cabac::engine::byte_align;
 use cabac::engine::rest;
 use cabac::engine::restart;
+use report::tally::Tally;
 
 const THREE: [u8; 3] = [0x01, 0x02, 0x03];
 

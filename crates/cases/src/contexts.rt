@@ -1,10 +1,10 @@
 // Initialisation: 4.
-use crate::tally::Tally;
 use crate::tally::context;
 use crate::tally::lent;
 use cabac::contexts::init;
 use cabac::contexts::init_contexts;
 use check::same;
+use report::tally::Tally;
 
 pub fn cases(t: Tally) -> Tally {
     let t = values(t);

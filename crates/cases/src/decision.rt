@@ -3,11 +3,11 @@ use crate::states;
 use crate::states::ended;
 use crate::states::live;
 use crate::states::past;
-use crate::tally::Tally;
 use crate::tally::decision;
 use bins::state::Engine;
 use cabac::engine::Decision;
 use cabac::engine::decode_bin;
+use report::tally::Tally;
 
 pub fn cases(t: Tally) -> Tally {
     let t = least_probable(t);

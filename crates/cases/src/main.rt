@@ -1,5 +1,5 @@
-// Runs the paper's cases of the engine and of the contexts, and each entry point's order of refusals: a line a case.
-// A line says what was answered and whether that is what the paper says; the last line counts.
+// Runs document 01's cases of the engine, of the contexts and of blocks, and each entry point's order of refusals: a line a case.
+// A line says what was answered and whether that is what document 01 says; the last line counts.
 mod align; // align.rt: byte alignment, the rest of the payload, restart
 mod bypass; // bypass.rt: bypass bins
 mod contexts; // contexts.rt: initialisation
@@ -7,13 +7,15 @@ mod decision; // decision.rt: decisions
 mod raw; // raw.rt: raw bits
 mod start; // start.rt: start
 mod states; // states.rt: states to hand in, and payloads
-mod tally; // tally.rt: what a case prints, and the count of cases
+mod tally; // tally.rt: what a case prints
 mod terminate; // terminate.rt: terminate
 
+use report::tally::none;
+use report::tally::total;
 use report::write::line;
 
 fn main() {
-    let t = tally::none();
+    let t = none();
     let t = start::cases(t);
     let t = bypass::cases(t);
     let t = decision::cases(t);
@@ -21,7 +23,8 @@ fn main() {
     let t = align::cases(t);
     let t = raw::cases(t);
     let t = contexts::cases(t);
+    let t = block_cases::cases(t);
     // a program has no 16,777,217 bytes: its stack holds 8,388,608, and there is no heap
     line(b"number 2 is not run: no program can hold a payload over 16,777,216 bytes");
-    tally::total(t);
+    total(t);
 }

@@ -1,10 +1,10 @@
 // Start: 1, 2, 5.
 use crate::states;
 use crate::states::live;
-use crate::tally::Tally;
 use crate::tally::state;
 use cabac::engine::State;
 use cabac::engine::start;
+use report::tally::Tally;
 
 pub fn cases(t: Tally) -> Tally {
     let t = short(t);

@@ -1,62 +1,12 @@
-// What a case prints, and the count of cases. A case gives the answer and the answer that is wanted.
+// What a case of the engine or of the contexts prints. A case gives the answer and the answer that is wanted.
 use bins::state::Engine;
 use cabac::engine::Bins;
 use cabac::engine::Decision;
 use cabac::engine::State;
+use report::tally::Tally;
+use report::tally::judged;
+use report::tally::named;
 use report::write;
-
-pub struct Tally {
-    pub cases: u32,
-    pub wrong: u32,
-}
-
-pub fn none() -> Tally {
-    Tally { cases: 0, wrong: 0 }
-}
-
-// No run comes near the bounds: they keep the sums from wrapping.
-fn counted(t: Tally, right: bool) -> Tally {
-    let cases = t.cases;
-    let wrong = t.wrong;
-    if 1000000 <= cases {
-        return t;
-    }
-    if 1000000 <= wrong {
-        return t;
-    }
-    if right {
-        return Tally {
-            cases: cases + 1,
-            wrong,
-        };
-    }
-    Tally {
-        cases: cases + 1,
-        wrong: wrong + 1,
-    }
-}
-
-pub fn total(t: Tally) {
-    write::decimal32(t.cases);
-    write::text(b" cases, ");
-    write::decimal32(t.wrong);
-    write::line(b" wrong");
-}
-
-fn named(name: &[u8]) {
-    write::text(name);
-    write::text(b": ");
-}
-
-// Ends the line with the verdict.
-fn judged(t: Tally, right: bool) -> Tally {
-    if right {
-        write::line(b", ok");
-    } else {
-        write::line(b", WRONG");
-    }
-    counted(t, right)
-}
 
 fn same_engine(a: Engine, b: Engine) -> bool {
     if a.range != b.range {

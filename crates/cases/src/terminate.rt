@@ -3,11 +3,11 @@ use crate::states;
 use crate::states::ended;
 use crate::states::live;
 use crate::states::past;
-use crate::tally::Tally;
 use crate::tally::bins;
 use bins::state::Engine;
 use cabac::engine::Bins;
 use cabac::engine::decode_terminate;
+use report::tally::Tally;
 
 pub fn cases(t: Tally) -> Tally {
     let t = started(t);

@@ -214,13 +214,13 @@ module _ (s : Bool) (l : List ℕ) (x : Interval) (cs : List ℕ) (r : Step) (ds
   chroma-says q e v = subst (λ t. Says r ds (from s l t x cs)) (last-chroma first luma log2 v q) (e (λ g t. leb (leastOf (suc g)) (v t)))
 
 -- ---- the head, call after call: what is left of its tree behind each
-abbrev wantedLast : Params → Wanted → Spot
+abbrev pub wantedLast : Params → Wanted → Spot
 wantedLast p t = lastWanted p (outerOf p) (innerOf p) t (area p)
 
-abbrev wantedX : Params → Wanted → ℕ
+abbrev pub wantedX : Params → Wanted → ℕ
 wantedX p t = cond (eqb (p .scan) 2) (wantedLast p t .y) (wantedLast p t .x)
 
-abbrev wantedY : Params → Wanted → ℕ
+abbrev pub wantedY : Params → Wanted → ℕ
 wantedY p t = cond (eqb (p .scan) 2) (wantedLast p t .x) (wantedLast p t .y)
 
 unfoldable pub behindSuffixX : Params → Bool → Bool → Bool → ℕ → ℕ → ℕ → S Head

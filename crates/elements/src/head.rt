@@ -32,7 +32,7 @@ pub enum Headed {
 // The least position of each group.
 const LEAST: [u8; 10] = [0, 1, 2, 3, 4, 6, 8, 12, 16, 24];
 
-fn least(g: u32) -> u32
+pub fn least(g: u32) -> u32
     requires { ⌜ g ≤ 9 ⌝ }
     ensures { λ r. ⌜ r ≡ leastOf g ⌝ }
 {
@@ -40,7 +40,7 @@ fn least(g: u32) -> u32
 }
 
 // The bits that tell a group's positions apart.
-fn suffix_bits(g: u32) -> u32
+pub fn suffix_bits(g: u32) -> u32
     ensures { λ r. ⌜ r ≡ suffixBits g ⌝ }
 {
     if g < 2 { 0 } else { (g - 2) / 2 }
@@ -81,20 +81,20 @@ fn last_prefix(
 }
 
 // Chroma's context of a flag stands behind luma's.
-fn in_chroma(luma: bool) -> usize
+pub fn in_chroma(luma: bool) -> usize
     ensures { λ r. ⌜ r ≡ inChroma luma 1 ⌝ }
 {
     if luma { 0 } else { 1 }
 }
 
 // Whether transform_skip_flag is coded, and explicit_rdpcm_flag.
-fn skip_coded(p: Params) -> bool
+pub fn skip_coded(p: Params) -> bool
     ensures { λ r. ⌜ r ≡ skipCoded p ⌝ }
 {
     if p.skip_allowed { !p.lossless } else { false }
 }
 
-fn rdpcm_coded(p: Params, skip: bool) -> bool
+pub fn rdpcm_coded(p: Params, skip: bool) -> bool
     ensures { λ r. ⌜ r ≡ rdpcmCoded p skip ⌝ }
 {
     if p.explicit {

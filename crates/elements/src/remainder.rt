@@ -76,7 +76,7 @@ fn capped(whole: u64) -> u32
 }
 
 // What n ones of an Exp-Golomb prefix of order k stand for, and the suffix behind them.
-fn whole_of(n: u32, k: u32, suffix: u32) -> u64
+pub fn whole_of(n: u32, k: u32, suffix: u32) -> u64
     requires { ⌜ (n ≤ 31) × (k ≤ 22) ⌝ }
     ensures { λ r. ⌜ r ≡ egBase k n + suffix ⌝ }
 {
@@ -106,7 +106,7 @@ fn exp_golomb(list: bool, k: u32, bytes: &[u8], x: Interval) -> Step
 }
 
 // The suffix of the limited form: T bits at the greatest prefix.
-fn escape_length(t: u32, n: u32, k: u32) -> u32
+pub fn escape_length(t: u32, n: u32, k: u32) -> u32
     requires { ⌜ (t ≤ 22) × (n ≤ 13) × (k ≤ 22) ⌝ }
     ensures { λ r. ⌜ r ≡ escapeLength t k n ⌝ }
 {

@@ -130,28 +130,18 @@ fn record(line: &[u8], payload: &mut [u8; PAYLOAD], slice: Slice) -> Slice {
 fn turn(buffer: &mut [u8; 65536], payload: &mut [u8; PAYLOAD], h: Held) -> Held {
     let slice = h.slice;
     let window = h.window;
-    match lines::next(buffer, window) {
-        Line::Is(from, to, left) => {
-            let next = record(lines::part(buffer, from, to), payload, slice);
-            Held {
-                window: left,
-                slice: next,
-                more: true,
-            }
-        }
-        Line::TooLong => {
-            write::line(b"a line is too long");
-            Held {
-                window,
-                slice,
-                more: false,
-            }
-        }
-        Line::Ended => Held {
+    let Line::Is(from, to, left) = lines::next_told(buffer, window) else {
+        return Held {
             window,
             slice,
             more: false,
-        },
+        };
+    };
+    let next = record(lines::part(buffer, from, to), payload, slice);
+    Held {
+        window: left,
+        slice: next,
+        more: true,
     }
 }
 

@@ -22,35 +22,28 @@ use report::write;
 const BINS: usize = 16384;
 
 fn show_state(e: Engine) {
-    write::text(b" ");
-    write::decimal32(e.range);
-    write::text(b" ");
-    write::decimal32(e.offset);
-    write::text(b" ");
-    write::count(e.at.0);
-    write::text(b" ");
-    write::flag(e.ended);
-    write::text(b" ");
-    write::flag(e.past);
+    write::spaced(e.range);
+    write::spaced(e.offset);
+    write::spaced_count(e.at.0);
+    write::spaced_flag(e.ended);
+    write::spaced_flag(e.past);
 }
 
 fn show_refusal(n: u32) {
-    write::text(b" refused ");
-    write::decimal32(n);
+    write::text(b" refused");
+    write::spaced(n);
 }
 
 // The place that byte alignment gives, and what is left of the payload there.
 fn show_alignment(bytes: &[u8], e: Engine) {
     match byte_align(bytes, e) {
         State::Ready(a) => {
-            write::text(b" ");
-            write::count(a.at.0 / 8);
+            write::spaced_count(a.at.0 / 8);
         }
         State::Refused(n) => show_refusal(n),
     }
     let left = rest(bytes, e);
-    write::text(b" ");
-    write::count(left.len());
+    write::spaced_count(left.len());
 }
 
 // The first segment of a payload starts, a later one restarts.
@@ -63,13 +56,7 @@ fn begin(bytes: &[u8], slice: Slice) -> State {
 }
 
 fn show_change(i: usize, context: u8, first: bool) {
-    if first {
-        write::text(b" ");
-    } else {
-        write::text(b",");
-    }
-    write::count(i);
-    write::text(b":");
+    write::place(i, first);
     write::hex(context);
 }
 
@@ -88,35 +75,30 @@ fn show_changes(before: &[u8; 199], after: &[u8; 199]) {
     }
 }
 
-fn show_bins(n: usize) {
-    write::text(b" ");
-    write::count(n);
-}
-
 // Reads the bins and prints the rest of the line; answers the state behind them.
 fn bins_of(bytes: &[u8], contexts: &[u8; 199], bins: &[u8], e: Engine) -> Engine {
     let mut changed = *contexts;
     match steps::run(bytes, &mut changed, bins, e) {
         Outcome::Done(next) => {
-            show_bins(bins.len() / 2);
+            write::spaced_count(bins.len() / 2);
             show_state(next);
             show_changes(contexts, &changed);
             next
         }
         Outcome::Differs(at) => {
             write::text(b" first difference at bin");
-            show_bins(at);
+            write::spaced_count(at);
             e
         }
         Outcome::Refused(n, at) => {
             show_refusal(n);
             write::text(b" at bin");
-            show_bins(at);
+            write::spaced_count(at);
             e
         }
         Outcome::Unknown(at) => {
             write::text(b" unknown bin");
-            show_bins(at);
+            write::spaced_count(at);
             e
         }
     }

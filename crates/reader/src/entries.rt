@@ -21,8 +21,7 @@ ghost use Rattle.residual.specs.Wanted.{area};
 ghost use Rattle.residual.specs.Numbers.{parameterRefusal};
 ghost use Rattle.residual.specs.Entries.{readPayload, readBins};
 ghost use Rattle.elements.specs.Agree.{Reads};
-ghost use Rattle.subblock.specs.CoeffsAgree.{Statistics};
-ghost use Rattle.reader.specs.BlockAgree.{Accepted};
+ghost use Rattle.residual.specs.Limits.{Accepted, Statistics};
 ghost use Rattle.reader.specs.EntriesAgree.{payloadRead, binsRead, payloadChecks, binsChecks, aboveRefusal, blockedNo, SaysInto};
 
 // A block with the state behind it, or the number of the refusal.
@@ -38,7 +37,7 @@ pub enum ReadList {
 }
 
 // n·n of an accepted size.
-fn area_of(log2: u32) -> usize
+pub fn area_of(log2: u32) -> usize
     requires { ⌜ (2 ≤ log2) × (log2 ≤ 5) ⌝ }
     ensures { λ r. ⌜ r ≡ 4 ^ log2 ⌝ }
 {
@@ -51,7 +50,7 @@ fn area_of(log2: u32) -> usize
 }
 
 // 4
-fn parameter_refusal(p: Params, block: &[i32]) -> u32
+pub fn parameter_refusal(p: Params, block: &[i32]) -> u32
     ensures { λ r. ⌜ r ≡ parameterRefusal p (now (block .entry)) ⌝ }
 {
     if p.log2 < 2 {
@@ -76,7 +75,7 @@ fn parameter_refusal(p: Params, block: &[i32]) -> u32
 }
 
 // 3, of bytes that are at most `most`
-fn above_refusal(bytes: &[u8], most: u8) -> u32
+pub fn above_refusal(bytes: &[u8], most: u8) -> u32
     ensures { λ r. ⌜ r ≡ aboveRefusal most (now (bytes .entry)) ⌝ }
 {
     let mut i: usize = 0;
@@ -127,7 +126,7 @@ fn payload_checks(
 }
 
 // 4, 3
-fn bins_checks(stats: &[u8], p: Params, block: &[i32]) -> u32
+pub fn bins_checks(stats: &[u8], p: Params, block: &[i32]) -> u32
     ensures { λ r. ⌜ r ≡ binsChecks (now (stats .entry)) p (now (block .entry)) ⌝ }
 {
     let a = parameter_refusal(p, block);

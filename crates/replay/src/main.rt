@@ -142,25 +142,16 @@ fn record(line: &[u8]) {
 }
 
 fn turn(buffer: &mut [u8; 65536], window: Window) -> Held {
-    match lines::next(buffer, window) {
-        Line::Is(from, to, left) => {
-            record(lines::part(buffer, from, to));
-            Held {
-                window: left,
-                more: true,
-            }
-        }
-        Line::TooLong => {
-            write::line(b"a line is too long");
-            Held {
-                window,
-                more: false,
-            }
-        }
-        Line::Ended => Held {
+    let Line::Is(from, to, left) = lines::next_told(buffer, window) else {
+        return Held {
             window,
             more: false,
-        },
+        };
+    };
+    record(lines::part(buffer, from, to));
+    Held {
+        window: left,
+        more: true,
     }
 }
 

@@ -16,16 +16,6 @@ use residual::params::Rdpcm;
 // What each place holds before the call.
 pub const BEHIND: i32 = 7;
 
-fn spaced(n: u32) {
-    write::text(b" ");
-    write::decimal32(n);
-}
-
-fn spaced_flag(on: bool) {
-    write::text(b" ");
-    write::flag(on);
-}
-
 fn rdpcm(r: Rdpcm) {
     match r {
         Rdpcm::None => write::text(b" -1"),
@@ -35,22 +25,21 @@ fn rdpcm(r: Rdpcm) {
 }
 
 fn found(f: Found) {
-    spaced(0);
-    spaced_flag(f.skip);
+    write::spaced(0);
+    write::spaced_flag(f.skip);
     let choice = f.rdpcm;
     rdpcm(choice);
-    spaced(f.column);
-    spaced(f.row);
-    spaced(f.greatest);
+    write::spaced(f.column);
+    write::spaced(f.row);
+    write::spaced(f.greatest);
 }
 
 fn state(e: Engine) {
-    spaced(e.range);
-    spaced(e.offset);
-    write::text(b" ");
-    write::count(e.at.0);
-    spaced_flag(e.ended);
-    spaced_flag(e.past);
+    write::spaced(e.range);
+    write::spaced(e.offset);
+    write::spaced_count(e.at.0);
+    write::spaced_flag(e.ended);
+    write::spaced_flag(e.past);
 }
 
 pub fn payload_answer(r: Read) {
@@ -59,14 +48,14 @@ pub fn payload_answer(r: Read) {
             found(f);
             state(e);
         }
-        Read::Refused(n) => spaced(n),
+        Read::Refused(n) => write::spaced(n),
     }
 }
 
 pub fn list_answer(r: ReadList) {
     match r {
         ReadList::Block(f) => found(f),
-        ReadList::Refused(n) => spaced(n),
+        ReadList::Refused(n) => write::spaced(n),
     }
 }
 
@@ -89,13 +78,7 @@ fn is_shown(place: usize, area: usize, level: i32) -> bool {
 }
 
 fn level(place: usize, value: i32, first: bool) {
-    if first {
-        write::text(b" ");
-    } else {
-        write::text(b",");
-    }
-    write::count(place);
-    write::text(b":");
+    write::place(place, first);
     write::signed(value);
 }
 

@@ -2,12 +2,13 @@
 use bytes::scan::find;
 ghost use mathlib.Core.Path.{_≡_};
 ghost use Prim.Native.Nat.{_+_, _-_, _*_, _≤_, _<_};
-ghost use lib.ListN.{length};
-ghost use Rattle.report.specs.Spelled.{NumberSpelled, DigitSpelled, OctetSpelled};
+ghost use lib.ListN.{length, take, drop};
+ghost use Rattle.report.specs.Fields.{fromField, fieldOf};
+ghost use Rattle.report.specs.Spelled.{digitOf, octetOf, decimalOf, octetsOf, octetsOver, isDash, octetsRead, octetsAnswer};
 
 // The place behind the k-th space, or the end where there are fewer.
 fn field_start(s: &[u8], k: usize) -> usize
-    ensures { λ r. ⌜ r ≤ length (now (s .entry)) ⌝ }
+    ensures { λ r. ⌜ (r ≤ length (now (s .entry))) × (drop r (now (s .entry)) ≡ fromField (now (s .entry)) k) ⌝ }
 {
     let mut from: usize = 0;
     let mut left = k;
@@ -23,7 +24,9 @@ fn field_start(s: &[u8], k: usize) -> usize
 }
 
 // The field of a number, counted from 0; empty where the line has no such field.
-pub fn field(s: &[u8], k: usize) -> &[u8] {
+pub fn field(s: &[u8], k: usize) -> &[u8]
+    ensures { λ r. ⌜ now r ≡ fieldOf (now (s .entry)) k ⌝ }
+{
     let from = field_start(s, k);
     let to = find(s, from, s.len(), b' ');
     &s[from..to]
@@ -34,9 +37,9 @@ pub enum Number {
     Missing,
 }
 
-// A field of decimal digits. More than 10^18 is no number of ours.
+// A field of decimal digits. Behind a number over 10^18 no further digit is taken.
 pub fn decimal(s: &[u8]) -> Number
-    ensures { λ r. ⌜ NumberSpelled (now (s .entry)) r ⌝ }
+    ensures { λ r. ⌜ r ≡ decimalOf (now (s .entry)) ⌝ }
 {
     if s.len() == 0 {
         return Number::Missing;
@@ -73,7 +76,7 @@ pub enum Digit {
 }
 
 pub fn hex_digit(b: u8) -> Digit
-    ensures { λ r. ⌜ DigitSpelled b r ⌝ }
+    ensures { λ r. ⌜ r ≡ digitOf b ⌝ }
 {
     match b {
         48..=57 => Digit::Is(b - 48),
@@ -89,7 +92,7 @@ pub enum Octet {
 
 // The byte of two hexadecimal digits.
 pub fn hex_byte(high: u8, low: u8) -> Octet
-    ensures { λ r. ⌜ OctetSpelled high low r ⌝ }
+    ensures { λ r. ⌜ r ≡ octetOf high low ⌝ }
 {
     let Digit::Is(h) = hex_digit(high) else {
         return Octet::Missing;
@@ -112,27 +115,56 @@ pub enum Octets {
     Missing,
 }
 
-// A field of hexadecimal bytes, put at the start of out; a dash stands for none.
-pub fn hex_bytes(s: &[u8], out: &mut [u8]) -> Octets {
-    if s.len() == 1 {
-        if s[0] == b'-' {
-            return Octets::Are(0);
-        }
+// A dash, which stands for no bytes.
+fn is_dash(s: &[u8]) -> bool
+    ensures { λ r. ⌜ r ≡ isDash (now (s .entry)) ⌝ }
+{
+    if s.len() != 1 {
+        return false;
     }
-    if s.len() % 2 != 0 {
-        return Octets::Missing;
-    }
-    let n = s.len() / 2;
-    if out.len() < n {
-        return Octets::Missing;
-    }
+    s[0] == b'-'
+}
+
+// Puts the bytes that the field spells at the start of out, up to the first that is none or has no room; answers how many they are.
+fn put_octets(s: &[u8], out: &mut [u8]) -> usize
+    ensures { λ r. ⌜ r ≡ length (take (length (now (out .entry))) (octetsOf (now (s .entry)))) ⌝ }
+    ensures { λ r. ⌜ now (out .exit) ≡ octetsOver (now (s .entry)) (now (out .entry)) ⌝ }
+    ensures { λ r. ⌜ 2 * r ≤ length (now (s .entry)) ⌝ }
+{
     let mut i: usize = 0;
-    while i < n {
+    while i < out.len() {
+        if s.len() / 2 <= i {
+            return i;
+        }
         let Octet::Is(b) = hex_byte(s[2 * i], s[2 * i + 1]) else {
-            return Octets::Missing;
+            return i;
         };
         out[i] = b;
         i += 1;
     }
-    Octets::Are(n)
+    i
+}
+
+// The answer for so many bytes: they are missing unless they are the whole field.
+fn octets_read(s: &[u8], n: usize) -> Octets
+    requires { ⌜ 2 * n ≤ length (now s) ⌝ }
+    ensures { λ r. ⌜ r ≡ octetsRead (now (s .entry)) n ⌝ }
+{
+    if is_dash(s) {
+        return Octets::Are(n);
+    }
+    if s.len() == 2 * n {
+        return Octets::Are(n);
+    }
+    Octets::Missing
+}
+
+// A field of hexadecimal bytes, put at the start of out; a dash stands for none.
+// Where it spells something else as well, or has no room, out holds the bytes before that.
+pub fn hex_bytes(s: &[u8], out: &mut [u8]) -> Octets
+    ensures { λ r. ⌜ r ≡ octetsAnswer (now (s .entry)) (length (now (out .entry))) ⌝ }
+    ensures { λ r. ⌜ now (out .exit) ≡ octetsOver (now (s .entry)) (now (out .entry)) ⌝ }
+{
+    let n = put_octets(s, out);
+    octets_read(s, n)
 }

@@ -1,9 +1,12 @@
 // The lines of standard input, through a buffer that the program lends.
+// What reads from standard input promises no line: no contract can say what the operating system hands over.
+use crate::write;
 use bytes::scan::find;
 use libc::STDIN_FILENO;
 ghost use mathlib.Core.Path.{_≡_};
-ghost use Prim.Native.Nat.{_≤_, _-_};
+ghost use Prim.Native.Nat.{_≤_, _-_, min};
 ghost use lib.ListN.{length};
+ghost use Rattle.bytes.specs.Bytes.{slice};
 
 // What was read into the buffer and is not handed out yet.
 pub struct Window {
@@ -23,7 +26,7 @@ pub enum Line {
 }
 
 fn least(a: usize, b: usize) -> usize
-    ensures { λ r. ⌜ (r ≤ a) × (r ≤ b) ⌝ }
+    ensures { λ r. ⌜ r ≡ min a b ⌝ }
 {
     if a < b { a } else { b }
 }
@@ -88,12 +91,23 @@ pub fn next(buf: &mut [u8], w: Window) -> Line {
     Line::TooLong
 }
 
-// The line itself; empty where the places lie outside the buffer.
-pub fn part(buf: &[u8], from: usize, to: usize) -> &[u8] {
-    if to <= buf.len() {
-        if from <= to {
-            return &buf[from..to];
+// The same for a program that ends with a line that is too long, and says so.
+pub fn next_told(buf: &mut [u8], w: Window) -> Line {
+    match next(buf, w) {
+        Line::Is(from, to, left) => Line::Is(from, to, left),
+        Line::TooLong => {
+            write::line(b"a line is too long");
+            Line::Ended
         }
+        Line::Ended => Line::Ended,
     }
-    &buf[..0]
+}
+
+// What stands from one place up to another; less where the buffer ends before.
+pub fn part(buf: &[u8], from: usize, to: usize) -> &[u8]
+    ensures { λ r. ⌜ now r ≡ slice from to (now (buf .entry)) ⌝ }
+{
+    let end = least(to, buf.len());
+    let start = least(from, end);
+    &buf[start..end]
 }

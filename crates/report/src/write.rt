@@ -1,4 +1,6 @@
 // Text, numbers and bytes to standard output. What could not be written is lost: the gate compares the output.
+// These functions promise nothing but to end: no contract can say what the operating system is handed. The numbers that
+// they hand on are io's, whose own contracts say which digits a number has.
 use libc::STDOUT_FILENO;
 ghost use mathlib.Core.Path.{_≡_};
 ghost use lib.IntN.{natAbs};
@@ -29,7 +31,7 @@ pub fn count(n: usize) {
 }
 
 // The distance from 0; it fits even of the least i32.
-fn magnitude(n: i32) -> u64
+pub fn magnitude(n: i32) -> u64
     ensures { λ r. ⌜ r ≡ natAbs n ⌝ }
 {
     if n < 0 {
@@ -51,6 +53,33 @@ pub fn flag(on: bool) {
     } else {
         text(b"0");
     }
+}
+
+// A space and a number.
+pub fn spaced(n: u32) {
+    text(b" ");
+    decimal32(n);
+}
+
+pub fn spaced_count(n: usize) {
+    text(b" ");
+    count(n);
+}
+
+pub fn spaced_flag(on: bool) {
+    text(b" ");
+    flag(on);
+}
+
+// The place of an entry of a list, `place:`; a space goes before the first entry, a comma before each other.
+pub fn place(n: usize, first: bool) {
+    if first {
+        text(b" ");
+    } else {
+        text(b",");
+    }
+    count(n);
+    text(b":");
 }
 
 // Two hexadecimal digits.

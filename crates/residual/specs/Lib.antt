@@ -8,4 +8,6 @@ pub mod Residual
 pub mod Refusal
 pub mod Numbers
 pub mod Entries
+pub mod Limits
+pub mod LimitLaws
 pub mod Cases

@@ -1,27 +1,21 @@
 -- Behind a level: whether it is in range, what goes on as the code makes it, and that this stays within bounds. Assumes nothing.
-use Prim.Native.Nat.{ℕ, zero, suc, _+_, _-_, _*_, _/_, _^_, _≤_, _<_, min, max}
+use Prim.Native.Nat.{ℕ, zero, suc, _+_, _-_, _/_, _^_, _≤_, _<_, min, max}
 use mathlib.Core.Path.{_≡_, refl, ap, _∙_}
 use mathlib.Core.Bool.{Bool, true, false, not, _&&_, _||_, cond}
 use native.Mathlib.Omega.{arith}
 use native.Mathlib.Nat.{pow-suc}
-use lib.Pow.{pow-pos, pow-mono}
-use lib.Dec.{leb, ltb}
-use borrow.Author.Tests.{ltb-true, ltb-false, leb-true, leb-false, lt-leb, le-ltb}
+use lib.Pow.{pow-mono}
+use lib.Dec.{leb}
+use borrow.Author.Tests.{ltb-true, leb-true, leb-false, lt-leb, le-ltb}
 use Rattle.residual.specs.declared.params.Params.{Params}
-use Rattle.residual.specs.Remainder.{log2TransformRange, inRange, riceNext, statNext}
+use Rattle.residual.specs.LimitLaws.{rice-most, stat-most, cond-most}
+use Rattle.residual.specs.Remainder.{inRange, riceNext, statNext}
 use Rattle.subblock.specs.declared.levels.Going.{Going}
 use Rattle.subblock.specs.Packing.{unmask}
 use Rattle.elements.specs.RemainderAgree.{most}
 use Rattle.subblock.specs.LevelsAgree.{Fine, seenNow, behindOf}
 
 -- ---- the range: a value above what is told apart is out of it, whatever its sign
-pub range-small : (p : Params) → p .depth ≤ 16 → log2TransformRange p ≤ 22
-range-small p h = go (p .extended)
-  where
-    go : (d : Bool) → cond d (max 15 (p .depth + 6)) 15 ≤ 22
-    go true = omega arith
-    go false = omega arith
-
 module _ (t : ℕ) (small : t ≤ 22) where
   pub range-most : (neg : Bool) (m : ℕ) → inRange t neg m ≡ true → m ≤ 4194304
   range-most true m q = let k : 2 ^ t ≤ 2 ^ 22 = pow-mono small in omega (arith, leb-true m (2 ^ t) q)
@@ -84,37 +78,6 @@ pub behind-code : (p : Params) (g : Going) (more : Bool) (v m sum column : ℕ) 
 behind-code p g more v m sum column bins seen signs rice had columns stat a b c d e f h = cc
 
 -- ---- what the loop keeps
-pow-below : (i j : ℕ) → 2 ^ i < 2 ^ j → i < j
-pow-below i j h = go (ltb i j) refl
-  where
-    go : (d : Bool) → ltb i j ≡ d → i < j
-    go true e = ltb-true i j e
-    go false e = let p : 2 ^ j ≤ 2 ^ i = pow-mono (ltb-false i j e) in absurd (omega arith)
-
-rice-most : (p : Params) (r m : ℕ) → r ≤ 21 → m ≤ 2 ^ 22 → riceNext p r m ≤ 21
-unfolding riceNext
-rice-most p r m h k = go (ltb (3 * 2 ^ r) m) refl (p .persistent)
-  where
-    go : (d : Bool) → ltb (3 * 2 ^ r) m ≡ d → (e : Bool) → cond d (cond e (r + 1) (min (r + 1) 4)) r ≤ 21
-    go false q e = h
-    go true q false = omega arith
-    go true q true = let l : suc r < 22 = pow-below (suc r) 22 (omega (arith, ltb-true (3 * 2 ^ r) m q, pow-suc 2 r, pow-pos r)) in omega arith
-
-stat-most : (s v : ℕ) → s ≤ 84 → v < 2 ^ 22 → statNext s v ≤ 84
-unfolding statNext
-stat-most s v h k = go (leb (3 * 2 ^ (s / 4)) v) refl (ltb (2 * v) (2 ^ (s / 4)) && ltb 0 s)
-  where
-    go : (d : Bool) → leb (3 * 2 ^ (s / 4)) v ≡ d → (e : Bool) → cond d (s + 1) (cond e (s - 1) s) ≤ 84
-    go false q true = omega arith
-    go false q false = h
-    go true q e =
-        let l : suc (s / 4) < 22 = pow-below (suc (s / 4)) 22 (omega (arith, leb-true (3 * 2 ^ (s / 4)) v q, pow-suc 2 (s / 4), pow-pos (s / 4))) in
-        omega arith
-
-cond-most : (d : Bool) (x y n : ℕ) → x ≤ n → y ≤ n → cond d x y ≤ n
-cond-most true x y n h k = h
-cond-most false x y n h k = k
-
 places-less : (v n : ℕ) → 0 < n → v < 16 ^ n → v / 16 < 16 ^ (n - 1)
 places-less v zero h k = absurd (omega arith)
 places-less v (suc n) h k = let e : suc n - 1 ≡ n = omega arith in rw e (omega (arith, pow-suc 16 n))

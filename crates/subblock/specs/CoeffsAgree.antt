@@ -4,7 +4,6 @@ use mathlib.Core.Path.{_≡_}
 use mathlib.Core.Bool.{Bool, true, false, not, _&&_}
 use mathlib.Core.List.{List, _∷_}
 use lib.IntN.{ℤ}
-use lib.ListN.{getD}
 use lib.Dec.{ltb}
 use Rattle.bins.specs.declared.state.Interval.{Interval}
 use Rattle.bins.specs.declared.state.Step.{Step}
@@ -30,10 +29,6 @@ use Rattle.subblock.specs.declared.coeffs.Carry.{Carry}
 use Rattle.subblock.specs.declared.coeffs.Carried.{Carried}
 use Rattle.subblock.specs.declared.coeffs.Carried.the-variants as carried
 use Rattle.subblock.specs.Packing.{unpack}
-
--- statistics within document 01's limit
-abbrev pub Statistics : List ℕ → Type 0
-Statistics stats = (i : ℕ) → getD stats i 0 ≤ 84
 
 pub record Carries (c : Carry) : Type 0 where
   pub carry : c .carry ≤ 3

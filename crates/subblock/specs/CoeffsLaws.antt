@@ -2,7 +2,7 @@
 use Prim.Native.Nat.{ℕ, zero, suc, _+_, _-_, _*_, _/_, _%_, _^_, _≤_, _<_, min}
 use mathlib.Core.Path.{_≡_, refl, sym, ap, subst, _∙_}
 use mathlib.Core.Bool.{Bool, true, false, not, _&&_, _||_, cond}
-use mathlib.Core.List.{List, [], _∷_}
+use mathlib.Core.List.{List, _∷_}
 use native.Mathlib.Omega.{arith}
 use native.Mathlib.Nat.{pow-suc, pow-zero}
 use lib.IntN.{ℤ, pos, natAbs}
@@ -26,6 +26,7 @@ use Rattle.residual.specs.Scan.{Spot}
 use Rattle.residual.specs.Wanted.{Wanted, S, innerOf, spotIn, lastOf}
 use Rattle.residual.specs.Head as syntax
 use Rattle.residual.specs.SubBlock.{Acc, Filled, Greater1, greater1S, countOf, firstGreater1, escapeDataPresent, signHidden, signsNo, dues, levelsS, sbType, coeffsS}
+use Rattle.residual.specs.Limits.{Statistics}
 use Rattle.elements.specs.declared.head.Head.{Head}
 use Rattle.elements.specs.Agree.{Reads, from, SaysFlag}
 use Rattle.elements.specs.ShapeLaws.{run-done}
@@ -44,7 +45,7 @@ use Rattle.subblock.specs.PackingLaws.{unpack-front, unpack-length, unpa
 use Rattle.subblock.specs.PlacesAgree.{refusalOf}
 use Rattle.subblock.specs.GreaterAgree.{SaysGreater, none}
 use Rattle.subblock.specs.LevelsAgree.{Fine, goingS, SaysAll}
-use Rattle.subblock.specs.CoeffsAgree.{Statistics, Carries, accOf, coeffsOf, isWide, hides, mayHide, alignedIf, greatersNumber, leveledNumber}
+use Rattle.subblock.specs.CoeffsAgree.{Carries, accOf, coeffsOf, isWide, hides, mayHide, alignedIf, greatersNumber, leveledNumber}
 
 -- ---- the small functions
 -- a mask that is not 0 has a bit
@@ -190,27 +191,20 @@ module _ (due s : Bool) (l : List ℕ) (x : Interval) where
   pub aligned-not : due ≡ false → step.Bin 0 x ≡ alignedIf due s l x
   aligned-not q = ap (λ i. alignedIf i s l x) (sym q)
 
-pub stats-set : (stats : List ℕ) (i v : ℕ) → Statistics stats → v ≤ 84 → Statistics (set stats i v)
-stats-set [] i v p h j = p j
-stats-set (c ∷ cs) zero v p h zero = h
-stats-set (c ∷ cs) zero v p h (suc j) = p (suc j)
-stats-set (c ∷ cs) (suc i) v p h zero = p zero
-stats-set (c ∷ cs) (suc i) v p h (suc j) = stats-set cs i v (λ k. p (suc k)) h j
-
 -- ---- the tree by its parts: what is left behind each call
 module _ (p : Params) (h : syntax.Head) (lv : ℕ → Wanted → ℤ) (spotOf : ℕ → Spot) (ctxSet k : ℕ) (ks : List ℕ) (a : Acc) where
-  abbrev signsOf : ℕ
+  abbrev pub signsOf : ℕ
   signsOf = suc (length ks) - bitNo (signHidden p (h .skip) (h .rdpcm) (k ∷ ks))
 
-  abbrev statOf : ℕ
+  abbrev pub statOf : ℕ
   statOf = getD (a .stats) (sbType p h) 0
 
-  abbrev levelsOf : Greater1 → Bool → ℕ → S Filled
+  abbrev pub levelsOf : Greater1 → Bool → ℕ → S Filled
   levelsOf g g2 signs =
       levelsS p lv spotOf (dues (k ∷ ks) (g .bins) false g2) signsOf signs (cond (p .persistent) (statOf / 4) 0) false 0
       (record { levels = a .levels; column = a .column; stat = statOf })
 
-  abbrev allOf : Greater1 → Filled → Acc
+  abbrev pub allOf : Greater1 → Filled → Acc
   allOf g f =
       record {
         codedSubBlock = a .codedSubBlock;
@@ -239,17 +233,17 @@ module _ (p : Params) (h : syntax.Head) (lv : ℕ → Wanted → ℤ) (spotOf : 
       flagIf (ltb 0 (countOf (g .bins))) (atGreater2 + ctxSet + inChroma (p .luma) 4) (λ t. ltb 2 (natAbs (lv (firstGreater1 (k ∷ ks) (g .bins)) t))) >>= λ g2.
       alignLeft g g2
 
-  coeffs-parts : coeffsS p h lv spotOf ctxSet k ks a
+  pub coeffs-parts : coeffsS p h lv spotOf ctxSet k ks a
       ≡ (greater1S lv (atGreater1 + 4 * ctxSet + inChroma (p .luma) 16) 8 (k ∷ ks) none >>= λ g. flagLeft g)
   unfolding coeffsS flagLeft alignLeft signsLeft levelsLeft
   coeffs-parts = refl
 
 -- ---- the places of s
 module _ (s : Places) (some : 0 < s .count) where
-  places-all : (s .list % 16 ∷ unpack (s .list / 16) (s .count - 1)) ≡ unpack (s .list) (s .count)
+  pub places-all : (s .list % 16 ∷ unpack (s .list / 16) (s .count - 1)) ≡ unpack (s .list) (s .count)
   places-all = let e : suc (s .count - 1) ≡ s .count = omega arith in sym (unpack-front (s .list) (s .count - 1)) ∙ ap (λ n. unpack (s .list) n) e
 
-  places-many : suc (length (unpack (s .list / 16) (s .count - 1))) ≡ s .count
+  pub places-many : suc (length (unpack (s .list / 16) (s .count - 1))) ≡ s .count
   places-many = let e : suc (s .count - 1) ≡ s .count = omega arith in ap suc (unpack-length (s .count - 1) (s .list / 16)) ∙ e
 
 -- ---- what an answer leads to

@@ -47,19 +47,19 @@ module _ (b c : ℕ) (h : b ≡ 1 → ⊥) where
   carry-most u = carry-by true false (lt-ltb 0 c (omega arith)) (le-ltb c 3 u)
 
 -- ---- the tree, by what is left of the places
-greater-end : (lv : ℕ → Wanted → ℤ) (base n : ℕ) (g : Greater1) → greater1S lv base n [] g ≡ done g
+pub greater-end : (lv : ℕ → Wanted → ℤ) (base n : ℕ) (g : Greater1) → greater1S lv base n [] g ≡ done g
 unfolding greater1S
 greater-end lv base zero g = refl
 greater-end lv base (suc n) g = refl
 
-greater-out : (lv : ℕ → Wanted → ℤ) (base : ℕ) (ks : List ℕ) (g : Greater1) → greater1S lv base 0 ks g ≡ done g
+pub greater-out : (lv : ℕ → Wanted → ℤ) (base : ℕ) (ks : List ℕ) (g : Greater1) → greater1S lv base 0 ks g ≡ done g
 unfolding greater1S
 greater-out lv base ks g = refl
 
-abbrev onFrom : (ℕ → Wanted → ℤ) → ℕ → ℕ → List ℕ → Greater1 → Bool → S Greater1
+abbrev pub onFrom : (ℕ → Wanted → ℤ) → ℕ → ℕ → List ℕ → Greater1 → Bool → S Greater1
 onFrom lv base n ks g b = greater1S lv base n ks (record { bins = g .bins ++ (b ∷ []); greater1Ctx = greater1CtxNext b (g .greater1Ctx) })
 
-greater-more : (lv : ℕ → Wanted → ℤ) (base n k : ℕ) (ks : List ℕ) (g : Greater1)
+pub greater-more : (lv : ℕ → Wanted → ℤ) (base n k : ℕ) (ks : List ℕ) (g : Greater1)
     → greater1S lv base (suc n) (k ∷ ks) g ≡ (bin (base + min (g .greater1Ctx) 3) (λ t. isBig lv t k) done >>= onFrom lv base n ks g)
 unfolding greater1S _>>=_
 greater-more lv base n k ks g = refl

@@ -15,6 +15,7 @@ use Rattle.bins.specs.Laws.{RefusedBy, bind-ok, bind-no}
 use Rattle.residual.specs.declared.params.Params.{Params}
 use Rattle.residual.specs.Wanted.{Wanted, S, area, cellOf, innerOf, spotIn}
 use Rattle.residual.specs.Scan.{Spot, spot}
+use Rattle.residual.specs.LimitLaws.{range-small}
 use Rattle.residual.specs.Remainder.{log2TransformRange, inRange, signed, remainderS}
 use Rattle.residual.specs.SubBlock.{dues, Filled, levelsS, negativeNow}
 use Rattle.elements.specs.Agree.{from, readable-on}
@@ -27,33 +28,33 @@ use Rattle.subblock.specs.PlacesAgree.{refusalOf}
 use Rattle.elements.specs.RemainderAgree.{most, SaysCapped}
 use Rattle.subblock.specs.LevelsAgree.{Site, Fine, Based, Lies, extraS, behindOf, goingS, SaysOne, SaysAll}
 use Rattle.subblock.specs.DueLaws.{dues-turn, based-least}
-use Rattle.subblock.specs.BehindLaws.{range-small, range-most, range-out, fine-behind}
+use Rattle.subblock.specs.BehindLaws.{range-most, range-out, fine-behind}
 
 -- ---- one clause of the tree
 module _ (p : Params) (s : Spot) (lv : ℕ → Wanted → ℤ) (g2 : Bool) (signs : ℕ) (g : Going) (levels : List ℤ) (level : ℕ) (more : Bool) where
-  abbrev placeOf : Spot
+  abbrev pub placeOf : Spot
   placeOf = spotIn (innerOf p) s (g .places % 16)
 
   -- what is wanted of its remainder
-  abbrev wants : Wanted → ℕ
+  abbrev pub wants : Wanted → ℕ
   wants t = natAbs (lv (g .places % 16) t) - level
 
-  abbrev signOf : ℕ → Bool
+  abbrev pub signOf : ℕ → Bool
   signOf v = negativeNow (g .signs) signs (g .sum + (level + v))
 
-  abbrev goesOn : ℕ → S Filled
+  abbrev pub goesOn : ℕ → S Filled
   goesOn v =
       goingS p s lv g2 signs (behindOf p g more v (level + v) (g .sum + (level + v)) (placeOf .x))
       (set levels (cellOf p placeOf) (signed (signOf v) (level + v)))
 
-  abbrev ifIn : ℕ → Bool → S Filled
+  abbrev pub ifIn : ℕ → Bool → S Filled
   ifIn v b = elim b [ false ↦ stop 8 | true ↦ goesOn v ]
 
   -- what follows its remainder v
-  abbrev restS : ℕ → S Filled
+  abbrev pub restS : ℕ → S Filled
   restS v = ifIn v (inRange (log2TransformRange p) (signOf v) (level + v))
 
-  going-turn : 0 < g .count → Based level more (g .mask) (g .bins) (g .seen) g2
+  pub going-turn : 0 < g .count → Based level more (g .mask) (g .bins) (g .seen) g2
       → goingS p s lv g2 signs g levels ≡ (extraS p more (g .rice) wants >>= restS)
   unfolding levelsS
   going-turn h b =
@@ -164,7 +165,7 @@ module _ (p : Params) (xs ys : ℕ) (list : Bool) (l : List ℕ) (g2 : Bool) (si
             )
 
 -- ---- the loop
-going-end : (p : Params) (s : Spot) (lv : ℕ → Wanted → ℤ) (g2 : Bool) (signs : ℕ) (g : Going) (levels : List ℤ) → g .count ≡ 0
+pub going-end : (p : Params) (s : Spot) (lv : ℕ → Wanted → ℤ) (g2 : Bool) (signs : ℕ) (g : Going) (levels : List ℤ) → g .count ≡ 0
     → goingS p s lv g2 signs g levels ≡ done (record { levels = levels; column = g .column; stat = g .stat })
 unfolding levelsS dues unpack
 going-end p s lv g2 signs g levels q =

@@ -107,18 +107,18 @@ pub inferred-by : (k count : ℕ) (infer : Bool) → k ≡ 0 → infer ≡ true 
 inferred-by k count infer q i = ap (λ z. eqb 0 0 && (z && eqb count 0)) (sym i) ∙ ap (λ z. eqb z 0 && (infer && eqb count 0)) (sym q)
 
 -- ---- the tree, by whether the lowest place is inferred
-places-end : (lv : ℕ → Wanted → ℤ) (ctx : ℕ → ℕ) (infer : Bool) (ks : List ℕ) → placesS lv ctx infer 0 ks ≡ done ks
+pub places-end : (lv : ℕ → Wanted → ℤ) (ctx : ℕ → ℕ) (infer : Bool) (ks : List ℕ) → placesS lv ctx infer 0 ks ≡ done ks
 unfolding placesS
 places-end lv ctx infer ks = refl
 
-abbrev onFrom : (ℕ → Wanted → ℤ) → (ℕ → ℕ) → Bool → ℕ → List ℕ → Bool → S (List ℕ)
+abbrev pub onFrom : (ℕ → Wanted → ℤ) → (ℕ → ℕ) → Bool → ℕ → List ℕ → Bool → S (List ℕ)
 onFrom lv ctx infer k ks b = placesS lv ctx infer k (cond b (ks ++ (k ∷ [])) ks)
 
-abbrev byInfer : Bool → S (List ℕ) → S (List ℕ)
+abbrev pub byInfer : Bool → S (List ℕ) → S (List ℕ)
 byInfer true t = done (0 ∷ [])
 byInfer false t = t
 
-places-more : (lv : ℕ → Wanted → ℤ) (ctx : ℕ → ℕ) (infer : Bool) (k : ℕ) (ks : List ℕ)
+pub places-more : (lv : ℕ → Wanted → ℤ) (ctx : ℕ → ℕ) (infer : Bool) (k : ℕ) (ks : List ℕ)
     → placesS lv ctx infer (suc k) ks ≡ byInfer (eqb k 0 && (infer && none ks)) (bin (ctx k) (λ t. isSig lv t k) done >>= onFrom lv ctx infer k ks)
 unfolding placesS none _>>=_
 places-more lv ctx infer k ks = go (eqb k 0 && (infer && none ks))

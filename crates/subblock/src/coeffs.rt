@@ -32,7 +32,8 @@ ghost use Rattle.scans.specs.Pairs.{pairsOf};
 ghost use Rattle.elements.specs.Agree.{Reads};
 ghost use Rattle.subblock.specs.Packing.{Packs};
 ghost use Rattle.subblock.specs.LevelsAgree.{Site};
-ghost use Rattle.subblock.specs.CoeffsAgree.{Statistics, Carries, SaysCoeffs, alignedIf, mayHide, isWide, hides, greatersNumber, leveledNumber};
+ghost use Rattle.residual.specs.Limits.{Statistics};
+ghost use Rattle.subblock.specs.CoeffsAgree.{Carries, SaysCoeffs, alignedIf, mayHide, isWide, hides, greatersNumber, leveledNumber};
 
 // What goes from sub-block to sub-block, beside the lent flags, levels and statistics.
 pub struct Carry {
@@ -53,14 +54,14 @@ fn in_chroma(luma: bool, n: usize) -> usize
     if luma { 0 } else { n }
 }
 
-fn greater1_base(luma: bool, ctxset: u32) -> usize
+pub fn greater1_base(luma: bool, ctxset: u32) -> usize
     requires { ⌜ ctxset ≤ 3 ⌝ }
     ensures { λ r. ⌜ r ≡ atGreater1 + 4 * ctxset + inChroma luma 16 ⌝ }
 {
     84 + 4 * ctxset as usize + in_chroma(luma, 16)
 }
 
-fn greater2_number(luma: bool, ctxset: u32) -> usize
+pub fn greater2_number(luma: bool, ctxset: u32) -> usize
     requires { ⌜ ctxset ≤ 3 ⌝ }
     ensures { λ r. ⌜ r ≡ atGreater2 + ctxset + inChroma luma 4 ⌝ }
 {
@@ -81,7 +82,7 @@ fn is_escape(n: u32, mask: u32, greater2: bool) -> bool
 }
 
 // Whether the range is aligned before signs and remainders.
-fn aligns(p: Params, n: u32, mask: u32, greater2: bool) -> bool
+pub fn aligns(p: Params, n: u32, mask: u32, greater2: bool) -> bool
     ensures { λ r. ⌜ r ≡ (p .aligning && escapeDataPresent n (ones mask) greater2) ⌝ }
 {
     if p.aligning {
@@ -131,7 +132,7 @@ fn is_wide(s: Places) -> bool
 }
 
 // 1 if the sign of the lowest place is not coded.
-fn hidden(p: Params, h: Head, s: Places) -> u32
+pub fn hidden(p: Params, h: Head, s: Places) -> u32
     requires { ⌜ Packs s × (0 < s .count) ⌝ }
     ensures { λ r. ⌜ r ≡ bitNo (hides p (h .skip) (h .rdpcm) s) ⌝ }
 {
@@ -145,7 +146,7 @@ fn hidden(p: Params, h: Head, s: Places) -> u32
     0
 }
 
-fn eight(n: u32) -> u32
+pub fn eight(n: u32) -> u32
     ensures { λ r. ⌜ r ≡ min 8 n ⌝ }
 {
     if 8 < n { 8 } else { n }
@@ -164,7 +165,7 @@ fn skip_or_bypass(p: Params, skip: bool) -> usize
 }
 
 // Which of the statistics the block's remainders use.
-fn sb_type(p: Params, skip: bool) -> usize
+pub fn sb_type(p: Params, skip: bool) -> usize
     ensures { λ r. ⌜ r ≡ 2 * bitNo (p .luma) + bitNo (skipOrBypass p skip) ⌝ }
 {
     if p.luma {
@@ -173,7 +174,7 @@ fn sb_type(p: Params, skip: bool) -> usize
     skip_or_bypass(p, skip)
 }
 
-fn rice_start(p: Params, stat: u8) -> u32
+pub fn rice_start(p: Params, stat: u8) -> u32
     ensures { λ r. ⌜ r ≡ cond (p .persistent) (stat / 4) 0 ⌝ }
 {
     if p.persistent { (stat / 4) as u32 } else { 0 }

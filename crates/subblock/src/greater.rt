@@ -25,7 +25,7 @@ pub enum Greaters {
     Refused(u32),
 }
 
-fn carry_next(b: u32, c: u32) -> u32
+pub fn carry_next(b: u32, c: u32) -> u32
     requires { ⌜ (b ≤ 1) × (c ≤ 3) ⌝ }
     ensures { λ r. ⌜ (r ≡ greater1CtxNext (eqb b 1) c) × (r ≤ 3) ⌝ }
 {

@@ -43,12 +43,12 @@ pub enum Leveled {
 }
 
 // A level's base, and whether a remainder follows.
-struct Base {
-    level: u32,
-    more: bool,
+pub struct Base {
+    pub level: u32,
+    pub more: bool,
 }
 
-fn base_of(bins: u32, mask: u32, seen: bool, greater2: bool) -> Base
+pub fn base_of(bins: u32, mask: u32, seen: bool, greater2: bool) -> Base
     ensures { λ r. ⌜ Based (r .level) (r .more) mask bins seen greater2 ⌝ }
 {
     if bins == 0 {
@@ -171,7 +171,7 @@ fn rice_behind(p: Params, g: Going, more: bool, m: u32) -> u32
 }
 
 // What goes on behind a level of remainder v and magnitude m, where the magnitudes come to sum.
-fn behind(p: Params, g: Going, more: bool, v: u32, m: u32, sum: u32, column: u32) -> Going
+pub fn behind(p: Params, g: Going, more: bool, v: u32, m: u32, sum: u32, column: u32) -> Going
     requires { ⌜ Fine p g × (0 < g .count) × (v ≤ 1073741824) ⌝ }
     ensures { λ r. ⌜ r ≡ behindOf p g more v m sum column ⌝ }
 {
@@ -191,13 +191,13 @@ fn behind(p: Params, g: Going, more: bool, v: u32, m: u32, sum: u32, column: u32
 }
 
 // Where a level goes: its column, and its place in the block.
-struct Cell {
-    column: u32,
-    at: usize,
+pub struct Cell {
+    pub column: u32,
+    pub at: usize,
 }
 
 // Place k of the scan of sub-block (xs, ys).
-fn cell_of(order: &[[u8; 2]; 16], p: Params, xs: u32, ys: u32, k: usize) -> Cell
+pub fn cell_of(order: &[[u8; 2]; 16], p: Params, xs: u32, ys: u32, k: usize) -> Cell
     requires { ⌜ (now order ≡ pairsOf (innerOf p)) × Site p xs ys × (k < 16) ⌝ }
     ensures { λ r. ⌜ Lies p xs ys k (r .column) (r .at) ⌝ }
 {

@@ -41,7 +41,7 @@ pub fn appended(s: Places, k: u32, b: u32) -> Places
 }
 
 // The context of the flag at place k.
-fn sig_number(
+pub fn sig_number(
     order: &[[u8; 2]; 16],
     map: &[[u8; 4]; 4],
     p: Params,
@@ -63,7 +63,7 @@ fn sig_number(
 }
 
 // The lowest place of a middle sub-block is 1 if no other was.
-fn inferred(k: u32, infer: bool, count: u32) -> bool
+pub fn inferred(k: u32, infer: bool, count: u32) -> bool
     ensures { λ r. ⌜ r ≡ (eqb k 0 && (infer && eqb count 0)) ⌝ }
 {
     if k == 0 {

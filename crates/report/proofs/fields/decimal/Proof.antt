@@ -2,37 +2,42 @@
 use Prim.Native.Nat.{ℕ, _≤_, _-_}
 use native.Mathlib.Omega.{arith}
 use mathlib.Core.Path.{_≡_, refl, subst, _∙_}
-use lib.ListN.{length, take}
-use lib.Seq.{take-length}
+use lib.ListN.{length, drop}
 use borrow.Author.Needs.{needs}
-use Rattle.io.specs.Digits.{digits}
-use Rattle.report.specs.SpelledLaws.{decimal-more}
+use Rattle.report.specs.Spelled.{decimalFrom, decimalOf}
+use Rattle.report.specs.SpelledLaws.{decimal-empty, decimal-first, decimal-none, decimal-more, decimal-end}
 use Rattle.report.proofs.fields.decimal.Statement.{statement}
 use Rattle.report.proofs.fields.decimal.Tie as tie
 
 abbrev Inv-loop : tie.InvT-loop
-Inv-loop s v₀ i₀ v i = (i ≤ length s) × (digits 10 i v ≡ take i s)
+Inv-loop s v₀ i₀ v i = (i ≤ length s) × (decimalFrom v (drop i s) ≡ decimalOf s)
 
 abbrev μ-loop : tie.MeasureT-loop
 μ-loop s v₀ i₀ v i = length s - i
 
 returns : tie.Need-returns Inv-loop μ-loop
-returns c = search needs
+returns c = decimal-empty (c .before .before .args .s .now) (c .if1 .taken)
 
 loop-holds : tie.Need-loop-holds Inv-loop μ-loop
-loop-holds c = (omega arith, refl)
+loop-holds c = (omega arith, decimal-first (c .before .before .args .s .now) (c .if1 .left))
 
 shared-slice-read-b : tie.Need-shared-slice-read-b Inv-loop μ-loop
 shared-slice-read-b c = search needs
 
 returns-2 : tie.Need-returns-2 Inv-loop μ-loop
-returns-2 c = search needs
+returns-2 c =
+    let t = c .before .before .before in
+    decimal-none _ (t .loop .i) (t .loop .v) (omega arith) (λ h k m. omega arith) ∙ t .loop .inv .1
 
 returns-3 : tie.Need-returns-3 Inv-loop μ-loop
-returns-3 c = search needs
+returns-3 c =
+    let t = c .before .before .before .before in
+    decimal-none _ (t .loop .i) (t .loop .v) (omega arith) (λ h k m. omega arith) ∙ t .loop .inv .1
 
 returns-4 : tie.Need-returns-4 Inv-loop μ-loop
-returns-4 c = search needs
+returns-4 c =
+    let t = c .before .before .before .before .before in
+    decimal-none _ (t .loop .i) (t .loop .v) (omega arith) (λ h k m. omega arith) ∙ t .loop .inv .1
 
 mul-v : tie.Need-mul-v Inv-loop μ-loop
 mul-v c = search needs
@@ -53,14 +58,13 @@ loop-again : tie.Need-loop-again Inv-loop μ-loop
 loop-again c =
     let t = c .before .before .before .before .before .before in
     let s = t .before .before .before .args .s .now in
-    (omega arith, decimal-more s (t .loop .i) (t .loop .v) (c .digit-value .result) (omega arith) (omega arith) (omega arith) (c .digit-value .ensures) (t .loop .inv .1))
+    let e = decimal-more s (t .loop .i) (t .loop .v) (omega arith) (c .digit-value .result) (omega arith) (omega arith) (omega arith) (c .digit-value .ensures) in
+    (omega arith, e ∙ t .loop .inv .1)
 
 returns-5 : tie.Need-returns-5 Inv-loop μ-loop
 returns-5 c =
     let t = c .before in
-    let s = t .before .before .before .args .s .now in
-    let e : t .loop .i ≡ length s = omega arith in
-    subst (λ (n : ℕ). digits 10 n (t .loop .v) ≡ take n s) e (t .loop .inv .1) ∙ take-length s
+    decimal-end (t .before .before .before .args .s .now) (t .loop .i) (t .loop .v) (omega arith) ∙ t .loop .inv .1
 
 pub decimal-spec : {M : Type 1} → statement M
 decimal-spec =

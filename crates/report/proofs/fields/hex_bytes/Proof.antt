@@ -1,104 +1,20 @@
 -- `hex_bytes` meets its contract. Assumes nothing.
-use Prim.Native.Nat.{_≤_, _-_}
-use mathlib.Core.Path.{_≡_}
-use lib.ListN.{length}
 use borrow.Author.Needs.{needs}
+use Rattle.report.specs.OctetsLaws.{read-answer}
 use Rattle.report.proofs.fields.hex_bytes.Statement.{statement}
 use Rattle.report.proofs.fields.hex_bytes.Tie as tie
 
-abbrev Inv-loop : tie.InvT-loop
-Inv-loop s out₀ n i₀ out i = (i ≤ n) × (length out ≡ length out₀)
+put-octets-requires : tie.Need-put-octets-requires
+put-octets-requires c κs = search needs
 
-abbrev μ-loop : tie.MeasureT-loop
-μ-loop s out₀ n i₀ out i = n - i
+octets-read-requires : tie.Need-octets-read-requires
+octets-read-requires c κs = search needs
 
-shared-slice-read-if2 : tie.Need-shared-slice-read-if2 Inv-loop μ-loop
-shared-slice-read-if2 c = search needs
-
-returns : tie.Need-returns Inv-loop μ-loop
-returns c = search needs
-
-returns-2 : tie.Need-returns-2 Inv-loop μ-loop
-returns-2 c = search needs
-
-returns-3 : tie.Need-returns-3 Inv-loop μ-loop
-returns-3 c = search needs
-
-loop-holds : tie.Need-loop-holds Inv-loop μ-loop
-loop-holds c = search needs
-
-mul-hex-byte : tie.Need-mul-hex-byte Inv-loop μ-loop
-mul-hex-byte c = search needs
-
-shared-slice-read-hex-byte : tie.Need-shared-slice-read-hex-byte Inv-loop μ-loop
-shared-slice-read-hex-byte c = search needs
-
-mul-hex-byte-2 : tie.Need-mul-hex-byte-2 Inv-loop μ-loop
-mul-hex-byte-2 c = search needs
-
-add-hex-byte : tie.Need-add-hex-byte Inv-loop μ-loop
-add-hex-byte c = search needs
-
-shared-slice-read-hex-byte-2 : tie.Need-shared-slice-read-hex-byte-2 Inv-loop μ-loop
-shared-slice-read-hex-byte-2 c = search needs
-
-hex-byte-requires : tie.Need-hex-byte-requires Inv-loop μ-loop
-hex-byte-requires c κs = search needs
-
-enum-known-b : tie.Need-enum-known-b Inv-loop μ-loop
-enum-known-b c = search needs
-
-enum-told : tie.Need-enum-told Inv-loop μ-loop
-enum-told c = search needs
-
-same-length : tie.Need-same-length Inv-loop μ-loop
+same-length : tie.Need-same-length
 same-length c = search needs
 
-returns-4 : tie.Need-returns-4 Inv-loop μ-loop
-returns-4 c = search needs
-
-slice-write-out : tie.Need-slice-write-out Inv-loop μ-loop
-slice-write-out c = search needs
-
-add-i : tie.Need-add-i Inv-loop μ-loop
-add-i c = search needs
-
-loop-less : tie.Need-loop-less Inv-loop μ-loop
-loop-less c = search needs
-
-loop-again : tie.Need-loop-again Inv-loop μ-loop
-loop-again c = search needs
-
-same-length-2 : tie.Need-same-length-2 Inv-loop μ-loop
-same-length-2 c = search needs
-
-returns-5 : tie.Need-returns-5 Inv-loop μ-loop
-returns-5 c = search needs
+returns : tie.Need-returns
+returns c = let f = c .before .before .before .put-octets in (read-answer _ _ _ _ (f .ensures .0) (c .octets-read .ensures), f .ensures .1 .0)
 
 pub hex-bytes-spec : {M : Type 1} → statement M
-hex-bytes-spec =
-    tie.close
-    (tie.spec
-    Inv-loop
-    μ-loop
-    shared-slice-read-if2
-    returns
-    returns-2
-    returns-3
-    loop-holds
-    mul-hex-byte
-    shared-slice-read-hex-byte
-    mul-hex-byte-2
-    add-hex-byte
-    shared-slice-read-hex-byte-2
-    hex-byte-requires
-    enum-known-b
-    enum-told
-    same-length
-    returns-4
-    slice-write-out
-    add-i
-    loop-less
-    loop-again
-    same-length-2
-    returns-5)
+hex-bytes-spec = tie.close (tie.spec put-octets-requires octets-read-requires same-length returns)

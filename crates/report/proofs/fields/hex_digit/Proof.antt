@@ -1,7 +1,7 @@
 -- `hex_digit` meets its contract. Assumes nothing.
 use native.Mathlib.Omega.{arith}
 use borrow.Author.Needs.{needs}
-use Rattle.report.specs.SpelledLaws.{glyph-decimal, glyph-letter}
+use Rattle.report.specs.SpelledLaws.{digit-decimal, digit-letter, digit-none}
 use Rattle.report.proofs.fields.hex_digit.Statement.{statement}
 use Rattle.report.proofs.fields.hex_digit.Tie as tie
 
@@ -9,19 +9,19 @@ sub-t5 : tie.Need-sub-t5
 sub-t5 c = search needs
 
 returns : tie.Need-returns
-returns c = (omega arith, glyph-decimal (c .before .before .args .b) (omega arith) (omega arith))
+returns c = digit-decimal (c .before .before .args .b) (omega arith) (omega arith)
 
 returns-2 : tie.Need-returns-2
-returns-2 c = (omega arith, glyph-letter (c .before .before .before .before .args .b) (omega arith) (omega arith))
+returns-2 c = digit-letter (c .before .before .before .before .args .b) (omega arith) (omega arith)
 
 returns-3 : tie.Need-returns-3
-returns-3 c = search needs
+returns-3 c = digit-none (c .before .args .b) (λ h k. omega arith) (λ h k. omega arith)
 
 returns-4 : tie.Need-returns-4
-returns-4 c = search needs
+returns-4 c = digit-none (c .before .before .before .args .b) (λ h k. omega arith) (λ h k. omega arith)
 
 returns-5 : tie.Need-returns-5
-returns-5 c = search needs
+returns-5 c = digit-none (c .before .before .before .before .args .b) (λ h k. omega arith) (λ h k. omega arith)
 
 pub hex-digit-spec : {M : Type 1} → statement M
 hex-digit-spec = tie.close (tie.spec sub-t5 returns returns-2 returns-3 returns-4 returns-5)

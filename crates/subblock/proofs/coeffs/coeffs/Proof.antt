@@ -17,7 +17,8 @@ use Rattle.residual.specs.SubBlock.{Acc}
 use Rattle.elements.specs.Agree.{from}
 use Rattle.subblock.specs.LevelsAgree.{Fine}
 use Rattle.subblock.specs.CoeffsAgree.{accOf, coeffsOf, hides}
-use Rattle.subblock.specs.CoeffsLaws.{AnsweredBins, Answered, AnsweredLevels, Left, NoLevels, anyLevels, toFlag, toAlign, toSigns, toLevels, read-bins, read-two, read-align, read-signs, read-levels, start-fine, stats-set, base-few, number-few, eight-few, hidden-few, signs-few, sb-few}
+use Rattle.residual.specs.LimitLaws.{stats-set}
+use Rattle.subblock.specs.CoeffsLaws.{AnsweredBins, Answered, AnsweredLevels, Left, NoLevels, anyLevels, toFlag, toAlign, toSigns, toLevels, read-bins, read-two, read-align, read-signs, read-levels, start-fine, base-few, number-few, eight-few, hidden-few, signs-few, sb-few}
 use Rattle.subblock.proofs.coeffs.coeffs.Statement.{statement}
 use Rattle.subblock.proofs.coeffs.coeffs.Tie as tie
 

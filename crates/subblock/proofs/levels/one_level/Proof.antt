@@ -4,7 +4,7 @@ use Prim.Native.Nat.{ℕ, _<_, _≤_}
 use native.Mathlib.Omega.{arith}
 use borrow.Author.Tests.{not-true, not-false}
 use Rattle.subblock.specs.DueLaws.{based-most}
-use Rattle.subblock.specs.BehindLaws.{range-small}
+use Rattle.residual.specs.LimitLaws.{range-small}
 use Rattle.subblock.specs.LevelLaws.{remainder-most, level-refused, level-out, in-most, level-got}
 use borrow.Author.Needs.{needs}
 use Rattle.subblock.proofs.levels.one_level.Statement.{statement}

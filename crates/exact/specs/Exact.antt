@@ -1,0 +1,305 @@
+-- Demand 3: the writer writes the one list that reads as the block it is handed. "Apart from lack of room it refuses exactly when no bin list
+-- of any length reads as those. It reports no room exactly when such a list exists and none fits the lent room." And the way round: what
+-- the writer writes, the reader reads as the same block; what the reader reads, the writer writes again. The answers of the two are readBins
+-- and writeBins, as residual/specs/Entries defines them. Assumes nothing.
+use Prim.Native.Nat.{ℕ, zero, suc, _≤_, _<_}
+use mathlib.Core.Path.{_≡_, refl, sym, ap, _∙_}
+use mathlib.Core.List.{List, [], _++_, append-nil}
+use mathlib.Core.Logic.{_↔_}
+use mathlib.Core.Bool.{Bool, true, false}
+use native.Mathlib.Omega.{arith}
+use lib.Dec.{ltb}
+use lib.IntN.{ℤ}
+use lib.ListN.{length, take, drop, length-append}
+use lib.Seq.{take-at, length-take-le}
+use borrow.Author.Tests.{ltb-true, ltb-false}
+use Rattle.bins.specs.Syn.{Out, Written, run, byList, write}
+use Rattle.bins.specs.WriteLaws.{written-read}
+use Rattle.cabac.specs.Numbers.{Answer}
+use Rattle.residual.specs.declared.params.Params.{Params}
+use Rattle.residual.specs.declared.params.Rdpcm.{Rdpcm}
+use Rattle.residual.specs.Wanted.{Wanted, area}
+use Rattle.residual.specs.Residual.{Block, residual}
+use Rattle.residual.specs.Refusal.{writeRefusal}
+use Rattle.residual.specs.Numbers.{parameterRefusal, statisticsRefusal}
+use Rattle.residual.specs.Limits.{Accepted, Statistics}
+use Rattle.residual.specs.LimitLaws.{parameter-passed, parameter-same, statistics-passed}
+use Rattle.residual.specs.Entries.{Found, foundOf, blockWith, BinsRead, readBins, BinsWritten, wantedFrom, writeBins}
+use Rattle.exact.specs.ResidualLaws.{Says, residual-writes, residual-exact}
+use Rattle.exact.specs.RefusalLaws.{refusal-none, none-refusal, refusal-below}
+use Rattle.exact.specs.EntryLaws.{Handed, writes-refused, writes-fits, writes-over, writes-passed, reads-whole, reads-passed}
+
+-- ---- lists and blocks
+-- the list l is read, to its last bin, by the residual syntax, and as exactly w: its levels, skip and RDPCM
+pub record ReadsAs (p : Params) (stats l : List ℕ) (w : Wanted) : Type 0 where
+  pub answer : Block
+  pub reads : run byList (residual p stats) l ≡ Out.ok answer []
+  pub levels : answer .levels ≡ w .levels
+  pub skip : answer .skip ≡ w .skip
+  pub rdpcm : answer .rdpcm ≡ w .rdpcm
+
+module _ (p : Params) (acc : Accepted p) (stats : List ℕ) (w : Wanted) where
+  -- (A) what is not refused is written, as a list that reads as w; list and answer, with extents and statistics, are the same written and read
+  pub written : Statistics stats → length (w .levels) ≡ area p → writeRefusal p w ≡ 0
+      → (l : List ℕ) × (r : ReadsAs p stats l w) × (write (residual p stats) w ≡ Written.ok (r .answer) l)
+  written small long e =
+      let s = residual-writes p (acc .least) (acc .most) (acc .scan) w stats (acc .depth) small
+      (refusal-none p (acc .least) (acc .most) (acc .scan) w long e) in
+      let r : run byList (residual p stats) (s .bins) ≡ Out.ok (s .answer) [] =
+      ap (run byList (residual p stats)) (sym (append-nil (s .bins))) ∙ written-read (residual p stats) w (s .answer) (s .bins) [] (s .wrote) in (
+        s .bins,
+        record { answer = s .answer; reads = r; levels = s .holds .levels; skip = s .holds .skip; rdpcm = s .holds .rdpcm },
+        s .wrote,
+      )
+
+  -- (B) a list that reads as w is the one written, whatever the statistics, and w is not refused
+  pub read : (l : List ℕ) (r : ReadsAs p stats l w) → (writeRefusal p w ≡ 0) × (write (residual p stats) w ≡ Written.ok (r .answer) l)
+  read l r =
+      let a = r .answer in
+      let q : Says a w = record { skip = r .skip; rdpcm = r .rdpcm; levels = r .levels } in
+      let x = residual-exact p (acc .least) (acc .most) (acc .scan) w stats in
+      let u = x .reads l a [] (r .reads) q in
+      let s = x .spells l a [] (r .reads) q in (
+        none-refusal p (acc .least) (acc .most) (acc .scan) w (u .long) u,
+        s .wrote ∙ ap (Written.ok a) (sym (s .split ∙ append-nil (s .bins))),
+      )
+
+  -- a list that reads as w has n·n levels
+  pub read-long : (l : List ℕ) → ReadsAs p stats l w → length (w .levels) ≡ area p
+  read-long l r =
+      residual-exact p (acc .least) (acc .most) (acc .scan) w stats .reads l (r .answer) [] (r .reads)
+      (record { skip = r .skip; rdpcm = r .rdpcm; levels = r .levels }) .long
+
+  -- what is refused, no list reads as
+  pub refused : (writeRefusal p w ≡ 0 → ⊥) → (l : List ℕ) → ReadsAs p stats l w → ⊥
+  refused n l r = n (read l r .0)
+
+  -- there is one list only
+  pub only : (l m : List ℕ) → ReadsAs p stats l w → ReadsAs p stats m w → l ≡ m
+  only l m r s =
+      let u = read l r .1 in
+      let v = read m s .1 in
+      cc
+
+-- a block that was read, as a writer is handed it
+abbrev pub wantedOf : Block → Wanted
+wantedOf a = record { skip = a .skip; rdpcm = a .rdpcm; levels = a .levels }
+
+module _ (p : Params) (acc : Accepted p) (stats l : List ℕ) (a : Block) (q : run byList (residual p stats) l ≡ Out.ok a []) where
+  abbrev itself : ReadsAs p stats l (wantedOf a)
+  itself = record { answer = a; reads = q; levels = refl; skip = refl; rdpcm = refl }
+
+  -- (B) of the answer itself
+  pub read-back : (writeRefusal p (wantedOf a) ≡ 0) × (write (residual p stats) (wantedOf a) ≡ Written.ok a l)
+  read-back = read p acc stats (wantedOf a) l itself
+
+  pub block-long : length (a .levels) ≡ area p
+  block-long = read-long p acc stats (wantedOf a) l itself
+
+-- ---- the number that the writer gives back
+not-le : (m n : ℕ) → (n ≤ m → ⊥) → m < n
+not-le m n f = go (ltb m n) refl
+  where
+    go : (d : Bool) → ltb m n ≡ d → m < n
+    go true q = ltb-true m n q
+    go false q = absurd (f (ltb-false m n q))
+
+not-accepted : {X : Type 0} (m n : ℕ) → Answer.refused m ≡ Answer.accepted n → X
+not-accepted m n q = let z : _≡_ {A = ℕ} 0 1 = cc in absurd (omega arith)
+
+same-accepted : (m n : ℕ) → Answer.accepted m ≡ Answer.accepted n → m ≡ n
+same-accepted m n q = cc
+
+same-refused : (m n : ℕ) (a : Answer ℕ) → a ≡ Answer.refused m → a ≡ Answer.refused n → m ≡ n
+same-refused m n a q r = cc
+
+-- where neither 4 nor 3 applies to what the writer is handed; what is written of a block is its first n·n places, with skip and RDPCM
+module _ (p : Params) (stats : List ℕ) (block : List ℤ) (skip : Bool) (rdpcm : Rdpcm) (room : List ℕ)
+    (not-4 : 0 ≡ parameterRefusal p block) (not-3 : 0 ≡ statisticsRefusal stats) where
+  h : Handed p stats block
+  h = record { parameters = not-4; statistics = not-3 }
+
+  acc : Accepted p
+  acc = parameter-passed p block not-4 .0
+
+  -- what becomes of a block: a list that fits, one that does not, or none
+  data Outcome : Type 0 where
+    fits : (l : List ℕ) → ReadsAs p stats l (wantedFrom p block skip rdpcm) → length l ≤ length room
+        → writeBins p stats block skip rdpcm room .answer ≡ Answer.accepted (length l) → Outcome
+    over : (l : List ℕ) → ReadsAs p stats l (wantedFrom p block skip rdpcm) → length room < length l
+        → writeBins p stats block skip rdpcm room .answer ≡ Answer.refused 12 → Outcome
+    none : (n : ℕ) → n ≤ 11 → (writeRefusal p (wantedFrom p block skip rdpcm) ≡ 0 → ⊥)
+        → writeBins p stats block skip rdpcm room .answer ≡ Answer.refused n → Outcome
+
+  -- a list that reads as the block is what is written of it
+  when-fits : (l : List ℕ) → ReadsAs p stats l (wantedFrom p block skip rdpcm) → length l ≤ length room
+      → writeBins p stats block skip rdpcm room .answer ≡ Answer.accepted (length l)
+  unfolding acc
+  when-fits l r k =
+      let x = read p acc stats (wantedFrom p block skip rdpcm) l r in
+      ap (λ (b : BinsWritten). b .answer) (writes-fits p stats block skip rdpcm room h (x .0) (r .answer) l (x .1) k)
+
+  when-over : (l : List ℕ) → ReadsAs p stats l (wantedFrom p block skip rdpcm) → length room < length l
+      → writeBins p stats block skip rdpcm room .answer ≡ Answer.refused 12
+  unfolding acc
+  when-over l r k =
+      let x = read p acc stats (wantedFrom p block skip rdpcm) l r in
+      ap (λ (b : BinsWritten). b .answer) (writes-over p stats block skip rdpcm room h (x .0) (r .answer) l (x .1) k)
+
+  outcome : Outcome
+  unfolding acc
+  outcome = by (writeRefusal p w) refl
+    where
+      w : Wanted
+      w = wantedFrom p block skip rdpcm
+
+      listed : (l : List ℕ) → ReadsAs p stats l w → (d : Bool) → ltb (length room) (length l) ≡ d → Outcome
+      listed l r true q = let k = ltb-true (length room) (length l) q in over l r k (when-over l r k)
+      listed l r false q = let k = ltb-false (length room) (length l) q in fits l r k (when-fits l r k)
+
+      by : (n : ℕ) → writeRefusal p w ≡ n → Outcome
+      by zero e =
+          let pass = parameter-passed p block not-4 in
+          let s = written p acc stats w (statistics-passed stats not-3) (length-take-le (area p) block (pass .1)) e in
+          listed (s .0) (s .1) (ltb (length room) (length (s .0))) refl
+      by (suc n) e =
+          none (suc n) (omega (arith, refusal-below p w)) (λ z. omega arith)
+          (ap (λ (b : BinsWritten). b .answer) (writes-refused p stats block skip rdpcm room h n e))
+
+  -- it accepts, with the length n, exactly when a list of length n that fits the room reads as the block
+  pub number-ok : (n : ℕ) → (writeBins p stats block skip rdpcm room .answer ≡ Answer.accepted n)
+      ↔ ((l : List ℕ) × ReadsAs p stats l (wantedFrom p block skip rdpcm) × (length l ≡ n) × (n ≤ length room))
+  number-ok n = (go outcome, λ x. when-fits (x .0) (x .1) (omega (arith, x .2, x .3)) ∙ ap Answer.accepted (x .2))
+    where
+      go : Outcome → writeBins p stats block skip rdpcm room .answer ≡ Answer.accepted n
+          → (l : List ℕ) × ReadsAs p stats l (wantedFrom p block skip rdpcm) × (length l ≡ n) × (n ≤ length room)
+      go (fits l r k e) q = let s = same-accepted (length l) n (sym e ∙ q) in (l, r, s, omega arith)
+      go (over l r k e) q = not-accepted 12 n (sym e ∙ q)
+      go (none m k z e) q = not-accepted m n (sym e ∙ q)
+
+  -- it reports no room exactly when a list that reads as the block exists and none fits the lent room
+  pub number-room : (writeBins p stats block skip rdpcm room .answer ≡ Answer.refused 12)
+      ↔ ((l : List ℕ) × ReadsAs p stats l (wantedFrom p block skip rdpcm)
+      × ((m : List ℕ) → ReadsAs p stats m (wantedFrom p block skip rdpcm) → length m ≤ length room → ⊥))
+  unfolding acc
+  number-room = (go outcome, λ x. when-over (x .0) (x .1) (not-le (length room) (length (x .0)) (x .2 (x .0) (x .1))))
+    where
+      go : Outcome → writeBins p stats block skip rdpcm room .answer ≡ Answer.refused 12
+          → (l : List ℕ) × ReadsAs p stats l (wantedFrom p block skip rdpcm)
+          × ((m : List ℕ) → ReadsAs p stats m (wantedFrom p block skip rdpcm) → length m ≤ length room → ⊥)
+      go (fits l r k e) q = not-accepted 12 (length l) (sym q ∙ e)
+      go (over l r k e) q =
+          (l, r, λ m s j. let t : length l ≡ length m = ap length (only p acc stats (wantedFrom p block skip rdpcm) l m r s) in omega arith)
+      go (none n k z e) q = let s = same-refused n 12 (writeBins p stats block skip rdpcm room .answer) e q in absurd (omega arith)
+
+  -- apart from lack of room it refuses exactly when no list of any length reads as the block
+  pub number-none : ((n : ℕ) × (writeBins p stats block skip rdpcm room .answer ≡ Answer.refused n) × (n ≡ 12 → ⊥))
+      ↔ ((l : List ℕ) → ReadsAs p stats l (wantedFrom p block skip rdpcm) → ⊥)
+  unfolding acc
+  number-none = (λ x l r. against outcome (x .0) (x .1) (x .2) l r, go outcome)
+    where
+      against : Outcome → (n : ℕ) → writeBins p stats block skip rdpcm room .answer ≡ Answer.refused n → (n ≡ 12 → ⊥)
+          → (l : List ℕ) → ReadsAs p stats l (wantedFrom p block skip rdpcm) → ⊥
+      against (fits m s k e) n q o l r = not-accepted n (length m) (sym q ∙ e)
+      against (over m s k e) n q o l r = o (same-refused n 12 (writeBins p stats block skip rdpcm room .answer) q e)
+      against (none m k z e) n q o l r = z (read p acc stats (wantedFrom p block skip rdpcm) l r .0)
+
+      go : Outcome → ((l : List ℕ) → ReadsAs p stats l (wantedFrom p block skip rdpcm) → ⊥)
+          → (n : ℕ) × (writeBins p stats block skip rdpcm room .answer ≡ Answer.refused n) × (n ≡ 12 → ⊥)
+      go (fits l r k e) f = absurd (f l r)
+      go (over l r k e) f = absurd (f l r)
+      go (none n k z e) f = (n, e, λ q. omega arith)
+
+-- ---- the way round
+-- what the writer accepts stands at the front of the room and reads as the block; the room beyond it is untouched, and the statistics are those
+-- that the reader of that list leaves
+pub record Wrote (p : Params) (stats : List ℕ) (block : List ℤ) (skip : Bool) (rdpcm : Rdpcm) (room : List ℕ) (n : ℕ) : Type 0 where
+  pub list : List ℕ
+  pub reads : ReadsAs p stats list (wantedFrom p block skip rdpcm)
+  pub long : length list ≡ n
+  pub leaves : writeBins p stats block skip rdpcm room ≡ record { answer = Answer.accepted n; stats = reads .answer .stats; room = list ++ drop n room }
+
+-- and the reader accepts that list: the same n·n places, skip, RDPCM and statistics, in any block lent that has room for them
+pub record ReadAgain (p : Params) (stats : List ℕ) (block : List ℤ) (skip : Bool) (rdpcm : Rdpcm) (room : List ℕ) (n : ℕ) (lent : List ℤ) : Type 0 where
+  pub found : Found
+  pub reads : readBins (take n (writeBins p stats block skip rdpcm room .room)) stats p lent ≡ record {
+    answer = Answer.accepted found;
+    stats = writeBins p stats block skip rdpcm room .stats;
+    block = blockWith p (take (area p) block) lent;
+  }
+  pub skips : found .skip ≡ skip
+  pub explicit : found .rdpcm ≡ rdpcm
+
+module _ (p : Params) (stats : List ℕ) (block : List ℤ) (skip : Bool) (rdpcm : Rdpcm) (room : List ℕ) (n : ℕ)
+    (ok : writeBins p stats block skip rdpcm room .answer ≡ Answer.accepted n) where
+  pub wrote : Wrote p stats block skip rdpcm room n
+  wrote =
+      let h = writes-passed p stats block skip rdpcm room n ok .0 in
+      let x = number-ok p stats block skip rdpcm room (h .parameters) (h .statistics) n .0 ok in
+      let r = x .1 in
+      let y = read p (parameter-passed p block (h .parameters) .0) stats (wantedFrom p block skip rdpcm) (x .0) r in
+      let e = writes-fits p stats block skip rdpcm room h (y .0) (r .answer) (x .0) (y .1) (omega (arith, x .2, x .3)) in
+      record {
+        list = x .0;
+        reads = r;
+        long = x .2;
+        leaves = e ∙ ap (λ (k : ℕ). at (x .0) r k) (x .2);
+      }
+    where
+      at : (l : List ℕ) → ReadsAs p stats l (wantedFrom p block skip rdpcm) → ℕ → BinsWritten
+      at l r k = record { answer = Answer.accepted k; stats = r .answer .stats; room = l ++ drop k room }
+
+  pub write-read : (lent : List ℤ) → area p ≤ length lent → ReadAgain p stats block skip rdpcm room n lent
+  write-read lent k =
+      let h = writes-passed p stats block skip rdpcm room n ok .0 in
+      let u = wrote in
+      let a = u .reads .answer in
+      let l : take n (writeBins p stats block skip rdpcm room .room) ≡ u .list =
+      ap (λ (b : BinsWritten). take n (b .room)) (u .leaves) ∙ take-at (u .list) (drop n room) n (u .long) in
+      let s : writeBins p stats block skip rdpcm room .stats ≡ a .stats = ap (λ (b : BinsWritten). b .stats) (u .leaves) in
+      let again : Handed p stats lent =
+      record { parameters = parameter-same p block lent (h .parameters) k; statistics = h .statistics } in
+      record {
+        found = foundOf a;
+        reads = rw (l, s, ← u .reads .levels) (reads-whole (u .list) stats p lent again a (u .reads .reads));
+        skips = u .reads .skip;
+        explicit = u .reads .rdpcm;
+      }
+
+-- what the reader accepts, the writer writes again entry for entry, with room for it, and leaves the same statistics
+module _ (l stats : List ℕ) (p : Params) (block : List ℤ) where
+  again : (a : Block) → Handed p stats block → run byList (residual p stats) l ≡ Out.ok a [] → (room : List ℕ) → length l ≤ length room
+      → writeBins p stats (blockWith p (a .levels) block) (a .skip) (a .rdpcm) room
+      ≡ record { answer = Answer.accepted (length l); stats = a .stats; room = l ++ drop (length l) room }
+  again a h q room k =
+      let acc = parameter-passed p block (h .parameters) .0 in
+      let long = block-long p acc stats l a q in
+      let front : take (area p) (blockWith p (a .levels) block) ≡ a .levels = take-at (a .levels) (drop (area p) block) (area p) long in
+      let w : wantedFrom p (blockWith p (a .levels) block) (a .skip) (a .rdpcm) ≡ wantedOf a =
+      ap (λ (z : List ℤ). wanting a z) front in
+      let b = read-back p acc stats l a q in
+      let fit : area p ≤ length (blockWith p (a .levels) block) = omega (arith, length-append (a .levels) (drop (area p) block)) in
+      writes-fits p stats (blockWith p (a .levels) block) (a .skip) (a .rdpcm) room
+      (record { parameters = parameter-same p block (blockWith p (a .levels) block) (h .parameters) fit; statistics = h .statistics })
+      (ap (writeRefusal p) w ∙ b .0) a l (ap (write (residual p stats)) w ∙ b .1) k
+    where
+      wanting : Block → List ℤ → Wanted
+      wanting a z = record { skip = a .skip; rdpcm = a .rdpcm; levels = z }
+
+  pub read-write : (f : Found) → readBins l stats p block .answer ≡ Answer.accepted f → (room : List ℕ) → length l ≤ length room
+      → writeBins p stats (readBins l stats p block .block) (f .skip) (f .rdpcm) room
+      ≡ record { answer = Answer.accepted (length l); stats = readBins l stats p block .stats; room = l ++ drop (length l) room }
+  read-write f q room k =
+      let x = reads-passed l stats p block f q in
+      let e = reads-whole l stats p block (x .handed) (x .read) (x .whole) in
+      let s : readBins l stats p block .stats ≡ x .read .stats = ap (λ (b : BinsRead). b .stats) e in
+      let b : readBins l stats p block .block ≡ blockWith p (x .read .levels) block = ap (λ (b : BinsRead). b .block) e in
+      let i : f .skip ≡ x .read .skip = ap (λ (f : Found). f .skip) (sym (x .found)) in
+      let j : f .rdpcm ≡ x .read .rdpcm = ap (λ (f : Found). f .rdpcm) (sym (x .found)) in
+      moved (readBins l stats p block .block) _ (f .skip) _ (f .rdpcm) _ (readBins l stats p block .stats) _ b i j s
+      (again (x .read) (x .handed) (x .whole) room k)
+    where
+      moved : (b b′ : List ℤ) (i i′ : Bool) (j j′ : Rdpcm) (s s′ : List ℕ) → b ≡ b′ → i ≡ i′ → j ≡ j′ → s ≡ s′
+          → writeBins p stats b′ i′ j′ room ≡ record { answer = Answer.accepted (length l); stats = s′; room = l ++ drop (length l) room }
+          → writeBins p stats b i j room ≡ record { answer = Answer.accepted (length l); stats = s; room = l ++ drop (length l) room }
+      moved b b′ i i′ j j′ s s′ eb ei ej es g = rw (eb, ei, ej, es) g

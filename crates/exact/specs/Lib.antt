@@ -1,0 +1,15 @@
+pub mod TreeLaws
+pub mod ReaderLaws
+pub mod RemainderLaws
+pub mod ListLaws
+pub mod HeadLaws
+pub mod PlaceLaws
+pub mod LevelLaws
+pub mod CoeffsLaws
+pub mod SubBlockLaws
+pub mod ResidualLaws
+pub mod RefusalLaws
+pub mod GoesLaws
+pub mod EntryLaws
+pub mod PieceLaws
+pub mod Exact

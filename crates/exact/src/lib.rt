@@ -1,0 +1,1 @@
+// That the bin writer and the bin reader fit one another: a crate of laws only, in specs.

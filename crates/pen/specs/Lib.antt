@@ -1,0 +1,5 @@
+pub mod Sheet
+pub mod SheetLaws
+pub mod ShapeLaws
+pub mod RemainderLaws
+pub mod HeadLaws
