@@ -1,21 +1,27 @@
 #!/usr/bin/env python3
 """Writes what the program replay reads, and what it must write, from the vectors of real streams.
 
-    block_vectors.py VECTORS OUT         a sample, as crates/replay keeps it
-    block_vectors.py VECTORS OUT all     every record
+    block_vectors.py VECTORS OUT all             every record
+    block_vectors.py VECTORS OUT sample          a sample of them
+    block_vectors.py VECTORS OUT sample MORE     the sample and then MORE, as crates/replay keeps it
 
-VECTORS has hevc.txt, rext.txt and forced.txt (VECTORS/FORMAT.md); OUT gets the files stdin and stdout.
+VECTORS has hevc.txt, rext.txt and forced.txt (VECTORS/FORMAT.md); MORE is what `oracle sample` writes (oracle/README.md): three lines a
+record, the line to read and the two to write. OUT gets the files stdin and stdout.
 
 stdin, a block a line, fields parted by one space, bytes hexadecimal:
 
     B parameters(14) range offset position payload contexts statistics list
 
-stdout, two lines for each, by the payload reader and by the bin reader:
+stdout, a line by the payload reader and one by the bin reader, and of an accepted block two by the bin writer:
 
     payload 0 skip rdpcm column row greatest range offset position ended past levels contexts statistics
     payload NUMBER levels contexts statistics
     bins 0 skip rdpcm column row greatest levels statistics
     bins NUMBER levels statistics
+    written 0 length list statistics
+    short 12 untouched statistics
+
+The last is the answer to a room of one byte less than the list has; its statistics are those handed in.
 
 Contexts are 120, the first of the vector's 130.
 """
@@ -46,7 +52,7 @@ def changed(contexts, changes):
 
 
 def pair(fields):
-    """The line to read and the two lines to write."""
+    """The line to read and the lines to write."""
     parameters, state = fields[2:16], fields[16:19]
     payload, contexts, statistics, bins = fields[19:23]
     contexts = contexts[:240]
@@ -59,7 +65,18 @@ def pair(fields):
     return line, [
         f"payload 0 {beside} {' '.join(after)} 0 0 {levels} {changed(contexts, changes)} {statistics_after}",
         f"bins 0 {beside} {levels} {statistics_after}",
+        f"written 0 {len(bins) // 2} {bins} {statistics_after}",
+        f"short 12 untouched {statistics}",
     ]
+
+
+def written(line, texts):
+    """The lines by the readers, and of a list that was taken the two by the writer."""
+    if not texts[1].startswith("bins 0 "):
+        return texts
+    statistics, bins = line.split(" ")[-2:]
+    after = texts[1].split(" ")[-1]
+    return [*texts, f"written 0 {len(bins) // 2} {bins} {after}", f"short 12 untouched {statistics}"]
 
 
 def sample(records):
@@ -72,13 +89,17 @@ def sample(records):
 
 
 def main():
-    if len(sys.argv) not in (3, 4):
+    if len(sys.argv) not in (4, 5) or sys.argv[3] not in ("all", "sample"):
         sys.exit(__doc__)
-    folder, out = sys.argv[1:3]
+    folder, out, which = sys.argv[1:4]
     pairs = []
     for name in FILES:
         records = list(blocks(folder, name))
-        pairs += map(pair, records if len(sys.argv) == 4 else sample(records))
+        pairs += map(pair, records if which == "all" else sample(records))
+    for name in sys.argv[4:]:
+        with open(name, encoding="ascii") as f:
+            lines = f.read().splitlines()
+        pairs += [(lines[k], written(lines[k], lines[k + 1 : k + 3])) for k in range(0, len(lines), 3)]
     with open(os.path.join(out, "stdin"), "w", encoding="ascii") as f:
         f.writelines(line + "\n" for line, _ in pairs)
     with open(os.path.join(out, "stdout"), "w", encoding="ascii") as f:

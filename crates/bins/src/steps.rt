@@ -1,4 +1,5 @@
 // A step from whichever source a reader reads: a bin list, or a payload by the arithmetic engine.
+use crate::apart;
 use crate::list;
 use crate::payload;
 use crate::state::Interval;
@@ -9,7 +10,7 @@ ghost use Prim.Native.Nat.{_≤_, _<_};
 ghost use Rattle.tables.specs.Decisions.{decisions};
 ghost use Rattle.bins.specs.Sources.{Readable, stepOf, stepOfBits, binFrom, contextFrom, bypassFrom, bitsFrom, alignFrom};
 
-fn step_of(t: Taken) -> Step
+pub fn step_of(t: Taken) -> Step
     ensures { λ r. ⌜ r ≡ Step.Bin (t .value) (t .next) ⌝ }
 {
     let next = t.next;
@@ -46,15 +47,18 @@ pub fn decode_bypass(list: bool, bytes: &[u8], x: Interval) -> Step
     step_of(t)
 }
 
+// n bypass bins as a number. Up to 16 of a payload are read here, the rest apart.
 pub fn decode_bypass_bits(list: bool, bytes: &[u8], x: Interval, n: u32) -> Step
     requires { ⌜ Readable list (now bytes) x × (n ≤ 32) ⌝ }
     ensures { λ r. ⌜ r ≡ stepOfBits (bitsFrom list (now (bytes .entry)) n x) ⌝ }
 {
-    if list {
-        return list::bypass_bits(bytes, x, n);
+    if !list {
+        if n <= 16 {
+            let t = payload::bypass_few(bytes, x, n);
+            return step_of(t);
+        }
     }
-    let t = payload::bypass_bits(bytes, x, n);
-    step_of(t)
+    apart::decode_bypass_bits(list, bytes, x, n)
 }
 
 // The range becomes 256 before escape bytes; an offset that lies above it is 7.
@@ -67,15 +71,9 @@ pub fn align_bypass(list: bool, bytes: &[u8], x: Interval) -> Step
     }
     let at = x.at;
     let offset = x.offset;
-    if 256 <= offset {
+    let range = 256;
+    if range <= offset {
         return Step::Refused(7);
     }
-    Step::Bin(
-        0,
-        Interval {
-            range: 256,
-            offset,
-            at,
-        },
-    )
+    Step::Bin(0, Interval { range, offset, at })
 }

@@ -26,7 +26,7 @@ pub fn text(out: &mut [u8; ROOM], at: usize, s: &[u8]) -> usize {
     k
 }
 
-fn decimal(out: &mut [u8; ROOM], at: usize, n: u64) -> usize {
+pub fn decimal(out: &mut [u8; ROOM], at: usize, n: u64) -> usize {
     let mut digits = [0u8; 20];
     let k = io::decimal(n, &mut digits);
     first_digits(out, at, &digits, k)
@@ -44,7 +44,7 @@ fn signed(out: &mut [u8; ROOM], at: usize, n: i32) -> usize {
     decimal(out, at, magnitude(n))
 }
 
-fn with_number(out: &mut [u8; ROOM], at: usize, name: &[u8], n: u32) -> usize {
+pub fn with_number(out: &mut [u8; ROOM], at: usize, name: &[u8], n: u32) -> usize {
     let k = text(out, at, name);
     decimal(out, k, n as u64)
 }
@@ -65,7 +65,7 @@ fn rdpcm(out: &mut [u8; ROOM], at: usize, r: Rdpcm) -> usize {
     }
 }
 
-fn flag(out: &mut [u8; ROOM], at: usize, on: bool, name: &[u8]) -> usize {
+pub fn flag(out: &mut [u8; ROOM], at: usize, on: bool, name: &[u8]) -> usize {
     if on { text(out, at, name) } else { at }
 }
 
@@ -88,7 +88,7 @@ fn state(out: &mut [u8; ROOM], at: usize, e: Engine) -> usize {
 }
 
 // n·n of an accepted size; no other block is written to.
-fn area(log2: u32) -> usize {
+pub fn area(log2: u32) -> usize {
     match log2 {
         2 => 16,
         3 => 64,

@@ -29,11 +29,11 @@ use report::write;
 use residual::params::Params;
 
 // The first n bytes.
-fn front(s: &[u8; ROOM], n: usize) -> &[u8] {
+pub fn front(s: &[u8; ROOM], n: usize) -> &[u8] {
     part(s, 0, n)
 }
 
-fn judge(t: Tally, case: &[u8], answer: &[u8]) -> Tally {
+pub fn judge(t: Tally, case: &[u8], answer: &[u8]) -> Tally {
     named(spelled::name(case));
     write::text(answer);
     judged(t, same(answer, spelled::wanted(case)))

@@ -24,6 +24,7 @@ fn main() {
     let t = raw::cases(t);
     let t = contexts::cases(t);
     let t = block_cases::cases(t);
+    let t = write_cases::cases(t);
     // a program has no 16,777,217 bytes: its stack holds 8,388,608, and there is no heap
     line(b"number 2 is not run: no program can hold a payload over 16,777,216 bytes");
     total(t);

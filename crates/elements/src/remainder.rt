@@ -1,5 +1,6 @@
 // coeff_abs_level_remaining: how it is read, and how its Rice parameter and statistic move.
 use crate::shapes::ones;
+use bins::apart;
 use bins::state::Interval;
 use bins::state::Step;
 use bins::steps::decode_bypass_bits;
@@ -98,7 +99,7 @@ fn exp_golomb(list: bool, k: u32, bytes: &[u8], x: Interval) -> Step
     if 32 <= n + k {
         return Step::Refused(8);
     }
-    let g = decode_bypass_bits(list, bytes, y, n + k);
+    let g = apart::decode_bypass_bits(list, bytes, y, n + k);
     let Step::Bin(suffix, z) = g else {
         return g;
     };
@@ -126,14 +127,14 @@ fn limited(list: bool, t: u32, k: u32, bytes: &[u8], x: Interval) -> Step
     if 32 < length {
         return Step::Refused(8);
     }
-    let g = decode_bypass_bits(list, bytes, y, length);
+    let g = apart::decode_bypass_bits(list, bytes, y, length);
     let Step::Bin(suffix, z) = g else {
         return g;
     };
     Step::Bin(capped(whole_of(n, k, suffix)), z)
 }
 
-// What follows four ones.
+// What follows four ones: rare, so that its suffix is read apart.
 fn escape(list: bool, p: Params, rice: u32, bytes: &[u8], x: Interval) -> Step
     requires { ⌜ Readable list (now bytes) x × (p .depth ≤ 16) × (rice ≤ 21) ⌝ }
     ensures { λ r. ⌜ ((v : Wanted → ℕ) (contexts : List ℕ) → SaysCapped r contexts (from list (now (bytes .entry)) (escapeS p (rice + 1) v) x contexts)) ⌝ }

@@ -1,14 +1,17 @@
-// Answers blocks of real streams through the two block readers: two lines of standard output for each line of input.
-// Fields are parted by one space; bytes are hexadecimal. tools/block_vectors.py writes both files from the vectors.
+// Answers blocks of real streams, and made ones, through the two block readers, and writes each block that was taken: four lines of
+// standard output for a line of input, two where the block is refused.
+// Fields are parted by one space; bytes are hexadecimal. tools/block_vectors.py writes both files from the vectors and from oracle's sample.
 //
 //     B parameters(14) range offset position payload contexts statistics list
 //
 // Parameters stand as in the vectors: log2, luma, scan, hiding, skip allowed, lossless, persistent, skip context, explicit, implicit, inter,
-// aligning, extended, depth. See show.rt for the lines written.
+// aligning, extended, depth. See show.rt and again.rt for the lines written.
+mod again; // again.rt: the block written by the bin writer
 mod show; // show.rt: an answer, with all that it leaves behind
 
 use bins::places::BitPlace;
 use bins::state::Engine;
+use reader::entries::ReadList;
 use reader::entries::read_bins;
 use reader::entries::residual_coding;
 use report::fields;
@@ -133,6 +136,17 @@ fn from_list(line: &[u8], p: Params) {
     show::levels(&block, p.log2);
     show::statistics(&statistics);
     write::end_line();
+    written(line, p, &block, r);
+}
+
+// What the reader refused is no block to write.
+fn written(line: &[u8], p: Params, block: &[i32; 1024], r: ReadList) {
+    let ReadList::Block(f) = r else {
+        return;
+    };
+    let mut statistics = [0u8; 4];
+    bytes_of(line, 20, &mut statistics);
+    again::lines_of(p, &statistics, block, f);
 }
 
 fn record(line: &[u8]) {

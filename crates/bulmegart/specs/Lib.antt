@@ -1,0 +1,5 @@
+pub mod Handed
+pub mod Exported
+pub mod Blocks
+pub mod Laws
+pub mod Lists

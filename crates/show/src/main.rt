@@ -1,0 +1,197 @@
+// Shows one block to a person: a frame of hexadecimal from standard input, the block or the refusal in words to standard output.
+//
+// A frame is 8 bytes for log2 size, luma (1) or chroma (0), scan, bit depth, QP, hiding (0 or 1), and the payload length as two bytes, high
+// first; then 120 initial values; then the payload of at most 4,096 bytes. Digits are lower case, two a byte, with nothing between them. Other
+// options are off, the statistics 0. What stands behind the frame is not looked at.
+mod grid; // grid.rt: the levels
+mod words; // words.rt: refusals and findings in words
+
+use bins::places::BitPlace;
+use bins::state::Engine;
+use cabac::contexts::init_contexts;
+use cabac::engine::State;
+use cabac::engine::start;
+use libc::STDIN_FILENO;
+use reader::block::Found;
+use reader::entries::Read;
+use reader::entries::residual_coding;
+use report::fields::Octets;
+use report::fields::hex_bytes;
+use report::lines::part;
+use report::write;
+use residual::params::Params;
+ghost use Prim.Native.Nat.{_≤_};
+
+const MOST: usize = 4096;
+
+// Header, values and payload as they stand in the frame.
+const HEADER_DIGITS: usize = 16;
+
+const FRONT_DIGITS: usize = 256;
+
+// Some bytes were spelled, so many of them, all by hexadecimal digits.
+fn spelled(digits: &[u8], out: &mut [u8]) -> bool {
+    let Octets::Are(_) = hex_bytes(digits, out) else {
+        return false;
+    };
+    true
+}
+
+fn number(byte: u8) -> u32 {
+    byte as u32
+}
+
+fn wide(byte: u8) -> usize
+    ensures { λ r. ⌜ r ≤ 255 ⌝ }
+{
+    byte as usize
+}
+
+fn params(header: &[u8; 8]) -> Params {
+    Params {
+        log2: number(header[0]),
+        luma: header[1] == 1,
+        scan: number(header[2]),
+        depth: number(header[3]),
+        hiding: header[5] == 1,
+        skip_allowed: false,
+        lossless: false,
+        persistent: false,
+        skip_context: false,
+        explicit: false,
+        implicit: false,
+        inter: false,
+        aligning: false,
+        extended: false,
+    }
+}
+
+// A luma or hiding byte above 1 is 4, as any size that there is none of.
+fn checked(header: &[u8; 8], p: Params) -> Params {
+    let mut q = p;
+    if 1 < header[1] {
+        q.log2 = 0;
+    }
+    if 1 < header[5] {
+        q.log2 = 0;
+    }
+    q
+}
+
+// The place of the payload's first bit, with an engine that has ended: a reader that is asked with it looks at all the rest and reads nothing.
+fn ended() -> Engine {
+    let at = BitPlace(0);
+    Engine {
+        range: 510,
+        offset: 0,
+        at,
+        ended: true,
+        past: false,
+    }
+}
+
+// 1 and 4 stand before the start's 5. Asked with an ended engine, 6 says that nothing else is wrong.
+fn refused_before_start(
+    payload: &[u8],
+    contexts: &mut [u8; 120],
+    statistics: &mut [u8; 4],
+    p: Params,
+    block: &mut [i32; 1024],
+) -> u32 {
+    let r = residual_coding(payload, ended(), contexts, statistics, p, block);
+    match r {
+        Read::Block(_, _) => 0,
+        Read::Refused(n) => {
+            if n == 6 {
+                return 0;
+            }
+            n
+        }
+    }
+}
+
+fn shown(found: Found, e: Engine, payload: &[u8], p: Params, block: &[i32; 1024]) {
+    words::size(p.log2, p.luma);
+    words::found(found);
+    words::drawn(e, payload.len());
+    grid::levels(block, p.log2, found.greatest);
+}
+
+fn read_from(
+    payload: &[u8],
+    e: Engine,
+    contexts: &mut [u8; 120],
+    statistics: &mut [u8; 4],
+    p: Params,
+    block: &mut [i32; 1024],
+) {
+    let r = residual_coding(payload, e, contexts, statistics, p, block);
+    match r {
+        Read::Block(found, next) => shown(found, next, payload, p, block),
+        Read::Refused(n) => words::refused(n),
+    }
+}
+
+fn read(header: &[u8; 8], values: &[u8; 120], payload: &[u8]) {
+    let mut contexts = [0u8; 120];
+    let mut statistics = [0u8; 4];
+    let mut block = [0i32; 1024];
+    let p = checked(header, params(header));
+    init_contexts(&mut contexts, &mut statistics, values, header[4]);
+    let n = refused_before_start(payload, &mut contexts, &mut statistics, p, &mut block);
+    if n != 0 {
+        words::refused(n);
+        return;
+    }
+    let s = start(payload);
+    match s {
+        State::Ready(e) => {
+            read_from(payload, e, &mut contexts, &mut statistics, p, &mut block);
+        }
+        State::Refused(m) => words::refused(m),
+    }
+}
+
+fn payload_length(header: &[u8; 8]) -> usize {
+    256 * wide(header[6]) + wide(header[7])
+}
+
+// The frame that stands at the front of the text.
+fn frame(text: &[u8]) {
+    let mut header = [0u8; 8];
+    let mut values = [0u8; 120];
+    let mut bytes = [0u8; MOST];
+    if text.len() < HEADER_DIGITS {
+        write::line(b"bad input: it ends within the first 8 bytes of a frame");
+        return;
+    }
+    if !spelled(part(text, 0, HEADER_DIGITS), &mut header) {
+        write::line(b"bad input: the first 8 bytes are not lower-case hexadecimal");
+        return;
+    }
+    let length = payload_length(&header);
+    if MOST < length {
+        write::line(b"bad input: the payload length is over 4096");
+        return;
+    }
+    let end = FRONT_DIGITS + 2 * length;
+    if text.len() < end {
+        write::line(b"bad input: it ends before the payload does");
+        return;
+    }
+    if !spelled(part(text, HEADER_DIGITS, FRONT_DIGITS), &mut values) {
+        write::line(b"bad input: the initial values are not lower-case hexadecimal");
+        return;
+    }
+    if !spelled(part(text, FRONT_DIGITS, end), &mut bytes) {
+        write::line(b"bad input: the payload is not lower-case hexadecimal");
+        return;
+    }
+    read(&header, &values, part(&bytes, 0, length));
+}
+
+fn main() {
+    let mut buffer = io::large_buffer();
+    let n = io::read_full(STDIN_FILENO, &mut buffer);
+    frame(part(&buffer, 0, n));
+}

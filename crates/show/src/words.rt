@@ -1,0 +1,92 @@
+// Refusals and findings in words.
+use bins::state::Engine;
+use reader::block::Found;
+use report::write;
+use residual::params::Rdpcm;
+
+fn reason(n: u32) {
+    match n {
+        1 => write::text(b"payload under 2 bytes"),
+        2 => write::text(b"payload over 16,777,216 bytes"),
+        3 => write::text(b"impossible state"),
+        4 => write::text(b"parameter out of its limits"),
+        5 => write::text(b"starting offset 510 or 511"),
+        6 => write::text(b"engine has ended"),
+        7 => write::text(b"alignment wanted while the offset is 256 or more"),
+        8 => write::text(b"level outside the coefficient range"),
+        _ => write::text(b"another reason"),
+    }
+}
+
+pub fn refused(n: u32) {
+    write::text(b"refused, number ");
+    write::decimal32(n);
+    write::text(b": ");
+    reason(n);
+    write::end_line();
+}
+
+fn yes_or_no(on: bool) {
+    if on {
+        write::line(b"yes");
+    } else {
+        write::line(b"no");
+    }
+}
+
+fn named(name: &[u8], n: u32) {
+    write::text(name);
+    write::decimal32(n);
+    write::end_line();
+}
+
+fn side(log2: u32) -> u32 {
+    match log2 {
+        2 => 4,
+        3 => 8,
+        4 => 16,
+        _ => 32,
+    }
+}
+
+pub fn size(log2: u32, luma: bool) {
+    write::text(b"accepted: ");
+    write::decimal32(side(log2));
+    write::text(b" by ");
+    write::decimal32(side(log2));
+    if luma {
+        write::line(b", luma");
+    } else {
+        write::line(b", chroma");
+    }
+}
+
+fn rdpcm(r: Rdpcm) {
+    match r {
+        Rdpcm::None => write::line(b"none"),
+        Rdpcm::Horizontal => write::line(b"horizontal"),
+        Rdpcm::Vertical => write::line(b"vertical"),
+    }
+}
+
+pub fn found(f: Found) {
+    write::text(b"transform skip      ");
+    yes_or_no(f.skip);
+    write::text(b"explicit RDPCM      ");
+    let direction = f.rdpcm;
+    rdpcm(direction);
+    named(b"column extent       ", f.column);
+    named(b"row extent          ", f.row);
+    named(b"greatest magnitude  ", f.greatest);
+}
+
+// Bits of the payload, of so many bytes.
+pub fn drawn(e: Engine, bytes: usize) {
+    write::text(b"bits drawn          ");
+    write::count(e.at.0);
+    write::text(b", of a payload of ");
+    write::count(bytes);
+    write::line(b" bytes");
+    write::text(b"past the end        ");
+    yes_or_no(e.past);
+}

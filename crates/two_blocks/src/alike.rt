@@ -1,0 +1,66 @@
+// Whether two readings of a block leave the same behind.
+use bins::state::Engine;
+use check::same;
+use reader::block::Found;
+use reader::entries::Read;
+use residual::params::Rdpcm;
+
+fn code(r: Rdpcm) -> u32 {
+    match r {
+        Rdpcm::None => 0,
+        Rdpcm::Horizontal => 1,
+        Rdpcm::Vertical => 2,
+    }
+}
+
+fn same_found(a: Found, b: Found) -> bool {
+    let one = a.rdpcm;
+    let other = b.rdpcm;
+    let marks = (a.skip == b.skip) & (code(one) == code(other));
+    marks & (a.column == b.column) & (a.row == b.row) & (a.greatest == b.greatest)
+}
+
+fn same_state(a: Engine, b: Engine) -> bool {
+    let marks = (a.ended == b.ended) & (a.past == b.past);
+    marks & (a.range == b.range) & (a.offset == b.offset) & (a.at.0 == b.at.0)
+}
+
+fn same_block(f: Found, e: Engine, other: Read) -> bool {
+    match other {
+        Read::Block(g, d) => same_found(f, g) & same_state(e, d),
+        Read::Refused(_) => false,
+    }
+}
+
+fn same_number(n: u32, other: Read) -> bool {
+    match other {
+        Read::Block(_, _) => false,
+        Read::Refused(m) => n == m,
+    }
+}
+
+pub fn same_answer(a: Read, b: Read) -> bool {
+    match a {
+        Read::Block(f, e) => same_block(f, e, b),
+        Read::Refused(n) => same_number(n, b),
+    }
+}
+
+pub fn same_contexts(a: &[u8; 120], b: &[u8; 120]) -> bool {
+    same(a, b)
+}
+
+pub fn same_statistics(a: &[u8; 4], b: &[u8; 4]) -> bool {
+    same(a, b)
+}
+
+pub fn same_levels(a: &[i32; 64], b: &[i32; 64]) -> bool {
+    let mut i: usize = 0;
+    while i < 64 {
+        if a[i] != b[i] {
+            return false;
+        }
+        i += 1;
+    }
+    true
+}

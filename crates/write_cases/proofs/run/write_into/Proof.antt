@@ -1,0 +1,50 @@
+-- `write_into` meets its contract. Assumes nothing.
+use borrow.Author.Needs.{needs}
+use mathlib.Core.Path.{sym}
+use native.Mathlib.Omega.{arith}
+use lib.Seq.{length-take-le}
+use Rattle.write_cases.proofs.run.write_into.Statement.{statement}
+use Rattle.write_cases.proofs.run.write_into.Tie as tie
+
+rdpcm-requires : tie.Need-rdpcm-requires
+rdpcm-requires c κs = search needs
+
+slice-relend-prefix-write-bins : tie.Need-slice-relend-prefix-write-bins
+slice-relend-prefix-write-bins c = search needs
+
+slice-aggregate-write-bins : tie.Need-slice-aggregate-write-bins
+slice-aggregate-write-bins c =
+    let a = c .before .before .before .before .before .before .args in
+    sym (length-take-le (a .g .room) (a .room .now) (omega arith))
+
+write-bins-requires : tie.Need-write-bins-requires
+write-bins-requires c κs = search needs
+
+same-length : tie.Need-same-length
+same-length c = search needs
+
+returns : tie.Need-returns
+returns c = search needs
+
+write-bins-requires-2 : tie.Need-write-bins-requires-2
+write-bins-requires-2 c κs = search needs
+
+same-length-2 : tie.Need-same-length-2
+same-length-2 c = search needs
+
+returns-2 : tie.Need-returns-2
+returns-2 c = search needs
+
+pub write-into-spec : {M : Type 1} → statement M
+write-into-spec =
+    tie.close
+    (tie.spec
+    rdpcm-requires
+    slice-relend-prefix-write-bins
+    slice-aggregate-write-bins
+    write-bins-requires
+    same-length
+    returns
+    write-bins-requires-2
+    same-length-2
+    returns-2)

@@ -1,0 +1,61 @@
+/* How much stack each entry point takes: it is called on a painted stack, and the lowest byte that changed is looked for.
+ *     cc -O1 -Iinclude oracle/stack.c target/staticlib/libbulmegart.a -pthread -o target/stack && target/stack            */
+#include <pthread.h>
+#include <stdio.h>
+#include <stdlib.h>
+#include <string.h>
+#include "bulmegart.h"
+
+enum { SIZE = 1 << 20, PAINT = 0xa5 };
+static unsigned char *stack, *caller;
+static uint8_t payload[4096], contexts[120], statistics[4], list[4096];
+static int32_t levels[1024];
+static volatile uint32_t number;
+static int which;
+
+static void call(void) {
+    bulmegart_params p = {.log2 = 5, .depth = 8, .luma = 1, .hiding = 1};
+    bulmegart_state s = bulmegart_start(payload, sizeof payload).state;
+    switch (which) {
+    case 0: number = bulmegart_start(payload, sizeof payload).number; break;
+    case 1: number = bulmegart_decision(payload, sizeof payload, s, 64).number; break;
+    case 2: number = bulmegart_bypass(payload, sizeof payload, s, 32).number; break;
+    case 3: number = bulmegart_terminate(payload, sizeof payload, s).number; break;
+    case 4: number = bulmegart_restart(payload, sizeof payload, s).number; break;
+    case 5: number = bulmegart_raw_bits(payload, sizeof payload, s, 32).number; break;
+    case 6: number = bulmegart_init_contexts(contexts, statistics, payload, 120, 26); break;
+    case 7: number = bulmegart_read_block(payload, sizeof payload, s, contexts, statistics, p, levels, 1024).number; break;
+    case 8: number = bulmegart_read_bins(list, sizeof list, statistics, p, levels, 1024).number; break;
+    default: break;
+    }
+}
+
+static void *run(void *unused) {
+    unsigned char here;
+    caller = &here;
+    call();
+    return unused;
+}
+
+static size_t depth(int w) {
+    pthread_t t;
+    pthread_attr_t a;
+    which = w;
+    memset(stack, PAINT, SIZE);
+    memset(contexts, 64, sizeof contexts);
+    pthread_attr_init(&a);
+    if (pthread_attr_setstack(&a, stack, SIZE) || pthread_create(&t, &a, run, NULL)) exit(1);
+    pthread_join(t, NULL);
+    size_t i = 0;
+    while (stack[i] == PAINT) i++;
+    return (size_t)(caller - (stack + i));
+}
+
+int main(void) {
+    const char *names[] = {"start", "decision", "bypass", "terminate", "restart", "raw bits", "init contexts", "read block", "read bins"};
+    stack = aligned_alloc(4096, SIZE);
+    for (size_t i = 0; i < sizeof payload; i++) payload[i] = (uint8_t)(i * 37 + (i >> 3) * 11);
+    for (int w = 0; w < 9; w++) printf("%-14s %zu bytes\n", names[w], depth(w));
+    printf("%-14s %zu bytes (the caller alone)\n", "none", depth(9));
+    return 0;
+}
