@@ -1,4 +1,4 @@
-/* Bulmegart for C: the arithmetic engine of H.265 (CABAC) and the two readers of a residual block.
+/* Bulmegart for C: the arithmetic engine of H.265 (CABAC), the two readers of a residual block, and the writer of bins.
  *
  * Link target/staticlib/libbulmegart.a (x86-64 Linux), which `rt staticlib bulmegart` proves and writes; to try it on Arm, tools/native_archive
  * makes an archive. Nothing is allocated, nothing is kept between calls, so any thread may call any of them. At most 4 KB of stack are taken.
@@ -18,6 +18,10 @@
  *    6  engine has ended
  *    7  alignment wanted while the offset is 256 or more
  *    8  level outside the coefficient range
+ *    9  writer: all levels zero
+ *   10  writer: skip or RDPCM set where it isn't coded
+ *   11  writer: a hidden sign disagrees with its parity
+ *   12  writer: list longer than the room
  *   13  bin reader: list ends early, has another tag, or has bins left over
  * Where several apply: 1, 2, 4, 3, 6, 5, then the order of reading. After any refusal the state, contexts and statistics are those handed in.
  *

@@ -26,6 +26,11 @@ static void call(void) {
     case 6: number = bulmegart_init_contexts(contexts, statistics, payload, 120, 26); break;
     case 7: number = bulmegart_read_block(payload, sizeof payload, s, contexts, statistics, p, levels, 1024).number; break;
     case 8: number = bulmegart_read_bins(list, sizeof list, statistics, p, levels, 1024).number; break;
+    case 9:
+        memset(levels, 0, sizeof levels);
+        levels[1023] = levels[700] = levels[33] = 9;
+        number = bulmegart_write_bins(p, statistics, levels, 1024, 0, 0, list, sizeof list).number;
+        break;
     default: break;
     }
 }
@@ -52,10 +57,10 @@ static size_t depth(int w) {
 }
 
 int main(void) {
-    const char *names[] = {"start", "decision", "bypass", "terminate", "restart", "raw bits", "init contexts", "read block", "read bins"};
+    const char *names[] = {"start", "decision", "bypass", "terminate", "restart", "raw bits", "init contexts", "read block", "read bins", "write bins"};
     stack = aligned_alloc(4096, SIZE);
     for (size_t i = 0; i < sizeof payload; i++) payload[i] = (uint8_t)(i * 37 + (i >> 3) * 11);
-    for (int w = 0; w < 9; w++) printf("%-14s %zu bytes\n", names[w], depth(w));
-    printf("%-14s %zu bytes (the caller alone)\n", "none", depth(9));
+    for (int w = 0; w < 10; w++) printf("%-14s %zu bytes\n", names[w], depth(w));
+    printf("%-14s %zu bytes (the caller alone)\n", "none", depth(10));
     return 0;
 }

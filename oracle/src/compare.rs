@@ -3,7 +3,7 @@ use crate::cabac::contexts::ContextSet;
 use crate::cabac::engine;
 use crate::model::{Engine, List, Scans, Walk, walk};
 use crate::peer;
-use bulmegart::{Found, Params, Rdpcm, State, read_bins, read_block};
+use bulmegart::{Found, Params, Rdpcm, State, read_bins, read_block, write_bins};
 use std::collections::BTreeMap;
 
 pub struct Input<'a> {
@@ -32,6 +32,7 @@ pub struct Bench {
     pub blocks: u64,
     pub wild: u64,
     pub past: u64,
+    pub written: u64,
 }
 
 pub fn number_of(r: Rdpcm) -> i32 {
@@ -88,6 +89,7 @@ impl Bench {
             blocks: 0,
             wild: 0,
             past: 0,
+            written: 0,
         }
     }
 
@@ -229,5 +231,24 @@ impl Bench {
             differ("list", i, format!("bins {bins:?}\nours {r:?} {statistics:?}, document 01 {wanted:?} {after:?}"));
         }
         *self.lists.entry(wanted.err().unwrap_or(0)).or_default() += 1;
+        if let Ok(f) = r {
+            self.written(i, bins, f, &after);
+        }
+    }
+
+    /// A list that was read is what the writer makes of its block, in a room that it fills; one byte less is 12.
+    fn written(&mut self, i: &Input, bins: &[u8], f: Found, after: &[u8; 4]) {
+        let mut room = vec![255; bins.len() + 4];
+        let (mut statistics, mut short) = (i.statistics, i.statistics);
+        let long = write_bins(i.params, &mut statistics, &self.ours[..i.room], f.skip, f.rdpcm, &mut room);
+        if long != Ok(bins.len()) || room[..bins.len()] != *bins || room[bins.len()..] != [255; 4] || statistics != *after {
+            differ("written", i, format!("bins {bins:?}\nwritten {long:?} {room:?} {statistics:?}"));
+        }
+        room.fill(255);
+        let none = write_bins(i.params, &mut short, &self.ours[..i.room], f.skip, f.rdpcm, &mut room[..bins.len() - 1]);
+        if none != Err(12) || room.iter().any(|&b| b != 255) || short != i.statistics {
+            differ("written in too little room", i, format!("bins {bins:?}\nwritten {none:?}"));
+        }
+        self.written += 1;
     }
 }
