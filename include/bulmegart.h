@@ -1,7 +1,7 @@
 /* Bulmegart for C: the arithmetic engine of H.265 (CABAC), the two readers of a residual block, and the writer of bins.
  *
  * Link target/staticlib/libbulmegart.a (x86-64 Linux), which `rt staticlib bulmegart` proves and writes; to try it on Arm, tools/native_archive
- * makes an archive. Nothing is allocated, nothing is kept between calls, so any thread may call any of them. At most 4 KB of stack are taken.
+ * makes an archive. Nothing is allocated, nothing is kept between calls, so any thread may call any of them. At most 5 KB of stack are taken.
  *
  * Memory. Every function takes any bytes, any state and any numbers, and ends. A caller can break memory only by lying about a length: a
  * pointer must be to as many elements as its length says (contexts: 120 bytes, statistics: 4), must not be NULL, not even with length 0,

@@ -1,4 +1,5 @@
-/* How much stack each entry point takes: it is called on a painted stack, and the lowest byte that changed is looked for.
+/* How much stack each entry point takes: it is called on a painted stack, and the lowest byte that changed is looked for. Each is called with a long payload
+ * and with short ones, since bits are fetched another way near the end, and with remainders of 21 bits and more, the most at once; the greatest counts.
  *     cc -O1 -Iinclude oracle/stack.c target/staticlib/libbulmegart.a -pthread -o target/stack && target/stack            */
 #include <pthread.h>
 #include <stdio.h>
@@ -12,20 +13,21 @@ static uint8_t payload[4096], contexts[120], statistics[4], list[4096];
 static int32_t levels[1024];
 static volatile uint32_t number;
 static int which;
+static size_t length;
 
 static void call(void) {
-    bulmegart_params p = {.log2 = 5, .depth = 8, .luma = 1, .hiding = 1};
-    bulmegart_state s = bulmegart_start(payload, sizeof payload).state;
+    bulmegart_params p = {.log2 = 5, .depth = 8, .luma = 1, .hiding = 1, .persistent = 1};
+    bulmegart_state s = bulmegart_start(payload, length).state;
     switch (which) {
-    case 0: number = bulmegart_start(payload, sizeof payload).number; break;
-    case 1: number = bulmegart_decision(payload, sizeof payload, s, 64).number; break;
-    case 2: number = bulmegart_bypass(payload, sizeof payload, s, 32).number; break;
-    case 3: number = bulmegart_terminate(payload, sizeof payload, s).number; break;
-    case 4: number = bulmegart_restart(payload, sizeof payload, s).number; break;
-    case 5: number = bulmegart_raw_bits(payload, sizeof payload, s, 32).number; break;
+    case 0: number = bulmegart_start(payload, length).number; break;
+    case 1: number = bulmegart_decision(payload, length, s, 64).number; break;
+    case 2: number = bulmegart_bypass(payload, length, s, 32).number; break;
+    case 3: number = bulmegart_terminate(payload, length, s).number; break;
+    case 4: number = bulmegart_restart(payload, length, s).number; break;
+    case 5: number = bulmegart_raw_bits(payload, length, s, 32).number; break;
     case 6: number = bulmegart_init_contexts(contexts, statistics, payload, 120, 26); break;
-    case 7: number = bulmegart_read_block(payload, sizeof payload, s, contexts, statistics, p, levels, 1024).number; break;
-    case 8: number = bulmegart_read_bins(list, sizeof list, statistics, p, levels, 1024).number; break;
+    case 7: number = bulmegart_read_block(payload, length, s, contexts, statistics, p, levels, 1024).number; break;
+    case 8: number = bulmegart_read_bins(list, length, statistics, p, levels, 1024).number; break;
     case 9:
         memset(levels, 0, sizeof levels);
         levels[1023] = levels[700] = levels[33] = 9;
@@ -42,18 +44,29 @@ static void *run(void *unused) {
     return unused;
 }
 
-static size_t depth(int w) {
+static size_t depth_at(int w, size_t l) {
     pthread_t t;
     pthread_attr_t a;
     which = w;
+    length = l;
     memset(stack, PAINT, SIZE);
     memset(contexts, 64, sizeof contexts);
+    memset(statistics, 84, sizeof statistics);
     pthread_attr_init(&a);
     if (pthread_attr_setstack(&a, stack, SIZE) || pthread_create(&t, &a, run, NULL)) exit(1);
     pthread_join(t, NULL);
     size_t i = 0;
     while (stack[i] == PAINT) i++;
     return (size_t)(caller - (stack + i));
+}
+
+static size_t depth(int w) {
+    size_t most = depth_at(w, sizeof payload);
+    for (size_t l = 2; l < 40; l++) {
+        size_t d = depth_at(w, l);
+        if (most < d) most = d;
+    }
+    return most;
 }
 
 int main(void) {

@@ -8,6 +8,7 @@ pub mod BitLaws
 pub mod EngineLaws
 pub mod IntervalLaws
 pub mod BypassLaws
+pub mod FetchLaws
 pub mod Laws
 pub mod Sources
 pub mod Settled

@@ -1,10 +1,11 @@
-// Bits of the payload, high bit first; past the end they are 1.
+// Bits of the payload (H.265 7.2, read_bits), high bit first; past the end they are 1. Where four bytes are left, up to 16 are taken at once.
 use crate::places::BitPlace;
 use crate::places::byte_of;
 ghost use mathlib.Core.Path.{_≡_};
-ghost use Prim.Native.Nat.{_+_, _≤_};
-ghost use lib.ListN.{length};
+ghost use Prim.Native.Nat.{_+_, _*_, _/_, _%_, _≤_, _<_};
+ghost use lib.ListN.{length, getD};
 ghost use Rattle.bins.specs.Bits.{bitAt, bits, ends};
+ghost use Rattle.bins.specs.FetchLaws.{LowFirst};
 ghost use Rattle.bins.specs.Interval.{ranOn, pastMost};
 
 fn bit_at(bytes: &[u8], at: BitPlace) -> u32
@@ -20,19 +21,94 @@ fn bit_at(bytes: &[u8], at: BitPlace) -> u32
     }
 }
 
-// The c bits at a place.
+// The c bits one after the other, near the end and past it. It calls itself so that LLVM never compiles it in place: a decision has but the call.
+fn one_by_one(bytes: &[u8], at: BitPlace, c: u32) -> u32
+    requires { ⌜ (at .0 ≤ ends (now bytes) + pastMost) × (length (now bytes) ≤ 16777216) × (c ≤ 32) ⌝ }
+    ensures { λ r. ⌜ r ≡ bits (now (bytes .entry)) (at .0) c ⌝ }
+{
+    if c == 0 {
+        return 0;
+    }
+    let k = c - 1;
+    let before = one_by_one(bytes, at, k);
+    let p = at.0;
+    before * 2 + bit_at(bytes, BitPlace(p + k as usize))
+}
+
+fn byte_at(bytes: &[u8], i: usize) -> u32
+    requires { ⌜ i < length (now bytes) ⌝ }
+    ensures { λ r. ⌜ (r ≡ getD (now (bytes .entry)) i 255) × (r < 256) ⌝ }
+{
+    bytes[i] as u32
+}
+
+// Four bytes, the first the lowest: LLVM makes one load of it. The first the highest, four loads stay, too much to compile a decision in place.
+fn low_first(bytes: &[u8], i: usize) -> u32
+    requires { ⌜ i + 4 ≤ length (now bytes) ⌝ }
+    ensures { λ r. ⌜ LowFirst (now (bytes .entry)) i r ⌝ }
+{
+    byte_at(bytes, i)
+        + byte_at(bytes, i + 1) * 256
+        + byte_at(bytes, i + 2) * 65536
+        + byte_at(bytes, i + 3) * 16777216
+}
+
+// The same four bytes, the first the highest: LLVM makes one swap of it.
+fn turned(w: u32) -> u32
+    ensures { λ r. ⌜ r ≡ w % 256 * 16777216 + w / 256 % 256 * 65536 + w / 65536 % 256 * 256 + w / 16777216 ⌝ }
+{
+    w % 256 * 16777216 + w / 256 % 256 * 65536 + w / 65536 % 256 * 256 + w / 16777216
+}
+
+// The 32 bits at a byte.
+fn word_at(bytes: &[u8], i: usize) -> u32
+    requires { ⌜ i + 4 ≤ length (now bytes) ⌝ }
+    ensures { λ r. ⌜ r ≡ bits (now (bytes .entry)) (8 * i) 32 ⌝ }
+{
+    turned(low_first(bytes, i))
+}
+
+// Bits as a number, and the place behind them.
+pub struct Drawn {
+    pub bits: u32,
+    pub next: BitPlace,
+}
+
+// Up to 16 bits at a place. No bits are a shift by 32, which a u32 does not have, so it is made in 64 bits.
+pub fn draw(bytes: &[u8], at: BitPlace, c: u32) -> Drawn
+    requires { ⌜ (at .0 ≤ ends (now bytes) + pastMost) × (length (now bytes) ≤ 16777216) × (c ≤ 16) ⌝ }
+    ensures { λ r. ⌜ (r .bits ≡ bits (now (bytes .entry)) (at .0) c) × (r .next .0 ≡ ranOn (now (bytes .entry)) (at .0) c) ⌝ }
+{
+    let byte = byte_of(at);
+    let i = byte.0;
+    let p = at.0;
+    if i + 4 <= bytes.len() {
+        let word = word_at(bytes, i) << (p % 8);
+        return Drawn {
+            bits: ((word as u64) >> (32 - c)) as u32,
+            next: BitPlace(p + c as usize),
+        };
+    }
+    let next = moved(bytes, at, c);
+    Drawn {
+        bits: one_by_one(bytes, at, c),
+        next,
+    }
+}
+
+// The c bits at a place (start 9.3.2.5, raw bits): 16 at once, the rest from where those left the place.
 pub fn fetch(bytes: &[u8], at: BitPlace, c: u32) -> u32
     requires { ⌜ (at .0 ≤ ends (now bytes) + pastMost) × (length (now bytes) ≤ 16777216) × (c ≤ 32) ⌝ }
     ensures { λ r. ⌜ r ≡ bits (now (bytes .entry)) (at .0) c ⌝ }
 {
-    let p = at.0;
-    let mut v: u32 = 0;
-    let mut i: u32 = 0;
-    while i < c {
-        v = v * 2 + bit_at(bytes, BitPlace(p + i as usize));
-        i += 1;
+    if c <= 16 {
+        let few = draw(bytes, at, c);
+        return few.bits;
     }
-    v
+    let high = draw(bytes, at, 16);
+    let between = high.next;
+    let low = draw(bytes, between, c - 16);
+    (high.bits << (c - 16)) + low.bits
 }
 
 // The place behind c bits. It runs on past the end, so that how far is known, and stops there at last.

@@ -1,6 +1,5 @@
-// The steps of the arithmetic engine, by value beside the payload. What a caller must ensure, an entry point has looked at once.
-use crate::fetch::fetch;
-use crate::fetch::moved;
+// The steps of the arithmetic engine (H.265 9.3.4.3), by value beside the payload. What a caller must ensure, an entry point has looked at once.
+use crate::fetch::draw;
 use crate::state::Interval;
 use crate::state::Taken;
 ghost use mathlib.Core.Path.{_≡_};
@@ -10,18 +9,18 @@ ghost use Prim.Native.Nat.{_-_, _≤_, _<_};
 ghost use Rattle.tables.specs.Decisions.{decisions};
 ghost use Rattle.bins.specs.Interval.{Goes, Renorms, renormedOn, decidedOn, decidedValue, bypassedOn};
 
-// Renormalise: the shift is the number of leading zeros of the range above nine bits.
+// Renormalise (9.3.4.3.3), all its bits by one fetch: the shift is the number of leading zeros of the range above nine bits.
 pub fn renorm(bytes: &[u8], x: Interval, range: u32, offset: u32) -> Interval
     requires { ⌜ Renorms (now bytes) x range offset ⌝ }
     ensures { λ r. ⌜ r ≡ renormedOn (now (bytes .entry)) x range offset ⌝ }
 {
     let shift = u32::leading_zeros(range) - 23;
     let at = x.at;
-    let bits = fetch(bytes, at, shift);
-    let next = moved(bytes, at, shift);
+    let drawn = draw(bytes, at, shift);
+    let next = drawn.next;
     Interval {
         range: range << shift,
-        offset: (offset << shift) + bits,
+        offset: (offset << shift) + drawn.bits,
         at: next,
     }
 }
@@ -65,15 +64,16 @@ pub fn decide(table: &[u32; 512], c: &mut u8, bytes: &[u8], x: Interval) -> Take
     }
 }
 
-// One bypass bin: the offset doubled with the next bit, held against the range.
+// One bypass bin (9.3.4.3.4): the offset doubled with the next bit, held against the range.
 pub fn bypass_one(bytes: &[u8], x: Interval) -> Taken
     requires { ⌜ Goes (now bytes) x ⌝ }
     ensures { λ r. ⌜ r ≡ bypassedOn (now (bytes .entry)) x 1 ⌝ }
 {
     let range = x.range;
     let at = x.at;
-    let offset = x.offset * 2 + fetch(bytes, at, 1);
-    let next = moved(bytes, at, 1);
+    let drawn = draw(bytes, at, 1);
+    let offset = x.offset * 2 + drawn.bits;
+    let next = drawn.next;
     let zero = offset < range;
     let kept = keep(zero, offset, range);
     Taken {
@@ -93,8 +93,9 @@ pub fn bypass_few(bytes: &[u8], x: Interval, n: u32) -> Taken
 {
     let range = x.range;
     let at = x.at;
-    let whole = (x.offset << n) + fetch(bytes, at, n);
-    let next = moved(bytes, at, n);
+    let drawn = draw(bytes, at, n);
+    let whole = (x.offset << n) + drawn.bits;
+    let next = drawn.next;
     Taken {
         value: whole / range,
         next: Interval {

@@ -1,5 +1,5 @@
 -- Laws of writing, step by step: what is left of a tree behind a bin, and behind a tree before it. Assumes nothing.
-use Prim.Native.Nat.{ℕ, suc, _+_, _*_, _≤_, _<_}
+use Prim.Native.Nat.{ℕ, suc, _≤_, _<_}
 use mathlib.Core.Path.{_≡_, refl, sym, ap, subst, _∙_}
 use mathlib.Core.Bool.{Bool, true, false, cond}
 use mathlib.Core.List.{List, [], _∷_, _++_}
@@ -118,14 +118,6 @@ wrote-then w t f a s s′ h =
             ap (λ (z : List ℕ). enteredAll z s) (d .5) ∙ entered-++ (d .1) (d .2) s ∙ ap (enteredAll (d .2)) r,
           );
     }
-
--- ---- a bin's entry, as the code reckons it
-module _ (number : ℕ) (bin : Bool) (s : Sheet) where
-  pub tag-on : bin ≡ true → entered (2 * number + 1) s ≡ entered (tag number bin) s
-  tag-on q = rw q refl
-
-  pub tag-off : bin ≡ false → entered (2 * number) s ≡ entered (tag number bin) s
-  tag-off q = let z : 2 * number ≡ 2 * number + 0 = omega arith in rw q (ap (λ x. entered x s) z)
 
 -- ---- from call to call: what is left of the whole behind one more of its trees
 pub wrote-call : {A C : Type 0} (w : Wanted) (whole : S C) (t : S A) (f : A → S C) (a : A) (s s′ s″ : Sheet) → Wrote whole (t >>= f) w s s′ → Wrote t (done a) w s′ s″

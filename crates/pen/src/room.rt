@@ -1,6 +1,7 @@
 // One entry into a lent room, or one more to the count of entries.
 ghost use mathlib.Core.Path.{_≡_};
 ghost use Prim.Native.Nat.{_≤_, _<_};
+ghost use Rattle.bins.specs.Engine.{bitNo};
 ghost use Rattle.bins.specs.Tags.{tag, bypassNo, alignTag};
 ghost use Rattle.pen.specs.Sheet.{sheet, moved, entered};
 
@@ -40,15 +41,19 @@ pub fn put(room: &mut [u8], pen: Pen, x: u8) -> Pen
     on(pen)
 }
 
-// A bin with the context of a number.
+fn bin_number(bin: bool) -> u8
+    ensures { λ r. ⌜ (r ≡ bitNo bin) × (r ≤ 1) ⌝ }
+{
+    if bin { 1 } else { 0 }
+}
+
+// A bin with the context of a number. Its tag is a sum and no branch: a processor guesses bins badly.
 pub fn put_bin(room: &mut [u8], pen: Pen, number: usize, bin: bool) -> Pen
     requires { ⌜ number ≤ 120 ⌝ }
     ensures { λ r. ⌜ sheet (now (room .exit)) r ≡ entered (tag number bin) (sheet (now (room .entry)) pen) ⌝ }
 {
-    if bin {
-        return put(room, pen, 2 * number as u8 + 1);
-    }
-    put(room, pen, 2 * number as u8)
+    let tag = 2 * number as u8 + bin_number(bin);
+    put(room, pen, tag)
 }
 
 pub fn put_bypass(room: &mut [u8], pen: Pen, bin: bool) -> Pen

@@ -13,6 +13,7 @@ use cabac::engine::state_refusal;
 use residual::params::Params;
 use tables::decision_table;
 ghost use mathlib.Core.Path.{_≡_};
+ghost use mathlib.Core.Bool.{true, cond};
 ghost use mathlib.Core.List.{_++_};
 ghost use Prim.Native.Nat.{_^_, _≤_};
 ghost use lib.ListN.{length, drop, replicate};
@@ -74,18 +75,23 @@ pub fn parameter_refusal(p: Params, block: &[i32]) -> u32
     0
 }
 
-// 3, of bytes that are at most `most`
+fn either(a: bool, b: bool) -> bool
+    ensures { λ r. ⌜ r ≡ cond b true a ⌝ }
+{
+    if b { true } else { a }
+}
+
+// 3, of bytes that are at most `most`. None ends the loop, so that LLVM looks at several at once.
 pub fn above_refusal(bytes: &[u8], most: u8) -> u32
     ensures { λ r. ⌜ r ≡ aboveRefusal most (now (bytes .entry)) ⌝ }
 {
+    let mut above = false;
     let mut i: usize = 0;
     while i < bytes.len() {
-        if most < bytes[i] {
-            return 3;
-        }
+        above = either(above, most < bytes[i]);
         i += 1;
     }
-    0
+    if above { 3 } else { 0 }
 }
 
 // 1, 2, 4, 3, 6

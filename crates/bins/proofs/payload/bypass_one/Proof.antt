@@ -8,17 +8,14 @@ use borrow.Author.Needs.{needs}
 use Rattle.bins.proofs.payload.bypass_one.Statement.{statement}
 use Rattle.bins.proofs.payload.bypass_one.Tie as tie
 
+draw-requires : tie.Need-draw-requires
+draw-requires c κs = search needs
+
 mul-offset : tie.Need-mul-offset
 mul-offset c = search needs
 
-fetch-requires : tie.Need-fetch-requires
-fetch-requires c κs = search needs
-
 add-offset : tie.Need-add-offset
-add-offset c = let a = c .before .before .before .before .args in omega (arith, c .before .before .before .before .pre .most, c .before .before .before .before .pre .below, c .fetch .ensures, bits-below (a .bytes .now) (placeOf (a .x)) 1 1 (omega arith))
-
-moved-requires : tie.Need-moved-requires
-moved-requires c κs = search needs
+add-offset c = let a = c .before .before .before .before .before .args in let h = c .before .before .before .before .before .pre in omega (arith, h .most, h .below, c .before .before .draw .ensures .0, bits-below (a .bytes .now) (placeOf (a .x)) 1 1 (omega arith))
 
 keep-requires : tie.Need-keep-requires
 keep-requires c κs = search needs
@@ -27,16 +24,8 @@ pick-requires : tie.Need-pick-requires
 pick-requires c κs = search needs
 
 returns : tie.Need-returns
-returns c = let a = c .before .before .before .before .before .before .before .args in one-code (a .bytes .now) (a .x) _ _ _ _ (c .before .before .before .before .before .before .before .pre) (c .before .before .before .fetch .ensures) (c .before .before .moved .ensures) (c .pick .ensures) (c .before .keep .ensures)
+returns c = let a = c .before .before .before .before .before .before .before .before .args in let d = c .before .before .before .before .before .draw in one-code (a .bytes .now) (a .x) _ _ _ _ (c .before .before .before .before .before .before .before .before .pre) (d .ensures .0) (d .ensures .1) (c .pick .ensures) (c .before .keep .ensures)
 
 pub bypass-one-spec : {M : Type 1} → statement M
 bypass-one-spec =
-    tie.close
-    (tie.spec
-    mul-offset
-    fetch-requires
-    add-offset
-    moved-requires
-    keep-requires
-    pick-requires
-    returns)
+    tie.close (tie.spec draw-requires mul-offset add-offset keep-requires pick-requires returns)

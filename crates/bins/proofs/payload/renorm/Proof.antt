@@ -10,11 +10,8 @@ use Rattle.bins.proofs.payload.renorm.Tie as tie
 sub-shift : tie.Need-sub-shift
 sub-shift c = let a = c .before .args in let h = c .before .pre in omega (arith, shifted (a .range) (h .some) (h .nine) .same)
 
-fetch-requires : tie.Need-fetch-requires
-fetch-requires c κs = let a = c .before .before .args in let h = c .before .before .pre in (h .fits, h .short, omega (arith, shift-few (a .bytes .now) (a .x) (a .range) (a .offset) h))
-
-moved-requires : tie.Need-moved-requires
-moved-requires c κs = let a = c .before .before .before .args in let h = c .before .before .before .pre in (h .fits, h .short, omega (arith, shift-few (a .bytes .now) (a .x) (a .range) (a .offset) h))
+draw-requires : tie.Need-draw-requires
+draw-requires c κs = let a = c .before .before .args in let h = c .before .before .pre in (h .fits, h .short, omega (arith, shift-few (a .bytes .now) (a .x) (a .range) (a .offset) h))
 
 shl-t9 : tie.Need-shl-t9
 shl-t9 c = let a = c .before .before .before .before .args in let h = c .before .before .before .before .pre in omega (arith, shift-few (a .bytes .now) (a .x) (a .range) (a .offset) h)
@@ -23,11 +20,11 @@ shl-t10 : tie.Need-shl-t10
 shl-t10 c = let a = c .before .before .before .before .args in let h = c .before .before .before .before .pre in omega (arith, shift-few (a .bytes .now) (a .x) (a .range) (a .offset) h)
 
 add-t11 : tie.Need-add-t11
-add-t11 c = let a = c .before .before .before .before .args in let h = c .before .before .before .before .pre in let few = shift-few (a .bytes .now) (a .x) (a .range) (a .offset) h in omega (arith, offset-small (a .bytes .now) (a .x) (a .range) (a .offset) h, c .before .fetch .ensures, bits-below (a .bytes .now) (placeOf (a .x)) (shift (a .bytes .now) (a .x) (a .range) (a .offset) h) 8 few)
+add-t11 c = let a = c .before .before .before .before .before .args in let h = c .before .before .before .before .before .pre in let few = shift-few (a .bytes .now) (a .x) (a .range) (a .offset) h in omega (arith, offset-small (a .bytes .now) (a .x) (a .range) (a .offset) h, c .before .before .draw .ensures .0, bits-below (a .bytes .now) (placeOf (a .x)) (shift (a .bytes .now) (a .x) (a .range) (a .offset) h) 8 few)
 
 returns : tie.Need-returns
-returns c = let a = c .before .before .before .before .args in renormed-code (a .bytes .now) (a .x) (a .range) (a .offset) (c .before .before .before .before .pre) _ _ (c .before .fetch .ensures) (c .moved .ensures)
+returns c = let a = c .before .before .before .before .before .args in let d = c .before .before .draw in renormed-code (a .bytes .now) (a .x) (a .range) (a .offset) (c .before .before .before .before .before .pre) _ _ (d .ensures .0) (d .ensures .1)
 
 pub renorm-spec : {M : Type 1} → statement M
 renorm-spec =
-    tie.close (tie.spec sub-shift fetch-requires moved-requires shl-t9 shl-t10 add-t11 returns)
+    tie.close (tie.spec sub-shift draw-requires shl-t9 shl-t10 add-t11 returns)
