@@ -99,7 +99,7 @@ typedef struct {
     uint8_t skip;       /* transform skip: 0 or 1 */
     uint8_t rdpcm;      /* explicit RDPCM: 0 none, 1 direction 0 (horizontal), 2 direction 1 (vertical) */
     uint32_t column;    /* column extent: greatest x of a level that is not 0 */
-    uint32_t row;       /* row extent: row of the last coded position */
+    uint32_t row;       /* row extent: greatest y of a level that is not 0. Every place with a greater x or a greater y is 0 */
     uint32_t greatest;  /* greatest magnitude */
 } bulmegart_found;
 

@@ -6,7 +6,8 @@
     block_vectors.py VECTORS OUT sample MORE     the sample and then MORE, as crates/replay keeps it
 
 VECTORS has hevc.txt, rext.txt and forced.txt (VECTORS/FORMAT.md); MORE is what `oracle sample` writes (oracle/README.md): three lines a
-record, the line to read and the two to write. OUT gets the files stdin and stdout.
+record, the line to read and the two to write; or a folder that has stdin and stdout, of which the records behind the sample are taken again.
+OUT gets the files stdin and stdout.
 
 stdin, a block a line, fields parted by one space, bytes hexadecimal:
 
@@ -23,7 +24,7 @@ stdout, a line by the payload reader and one by the bin reader, and of an accept
 
 The last is the answer to a room of one byte less than the list has; its statistics are those handed in.
 
-Contexts are 120, the first of the vector's 130.
+Contexts are 120, the first of the vector's 130. The row is the greatest of the levels beside it, whatever row was recorded (request (iii)).
 """
 import os
 import sys
@@ -51,6 +52,19 @@ def changed(contexts, changes):
     return after.hex()
 
 
+def row_of(log2, levels):
+    """The greatest row that holds a level."""
+    return str(max(int(level.split(":")[0]) >> int(log2) for level in levels.split(",")))
+
+
+def with_row(line, text):
+    """The line of an accepted block, with the row of its levels."""
+    words = text.split(" ")
+    if words[1] == "0":
+        words[5] = row_of(line.split(" ")[1], words[12 if words[0] == "payload" else 7])
+    return " ".join(words)
+
+
 def pair(fields):
     """The line to read and the lines to write."""
     parameters, state = fields[2:16], fields[16:19]
@@ -61,6 +75,7 @@ def pair(fields):
     line = " ".join(["B", *parameters, *state, payload, contexts, statistics, bins])
     if answer != "0":
         return line, [f"payload {answer} - {contexts} {statistics}", f"bins {answer} - {statistics}"]
+    found[3] = row_of(parameters[0], levels)
     beside = " ".join(found)
     return line, [
         f"payload 0 {beside} {' '.join(after)} 0 0 {levels} {changed(contexts, changes)} {statistics_after}",
@@ -72,6 +87,7 @@ def pair(fields):
 
 def written(line, texts):
     """The lines by the readers, and of a list that was taken the two by the writer."""
+    texts = [with_row(line, text) for text in texts]
     if not texts[1].startswith("bins 0 "):
         return texts
     statistics, bins = line.split(" ")[-2:]
@@ -88,6 +104,25 @@ def sample(records):
     return [records[place] for place in kept]
 
 
+def lines_of(name):
+    with open(name, encoding="ascii") as f:
+        return f.read().splitlines()
+
+
+def more(name, known):
+    """The records of MORE, three lines each; of a folder those behind the first `known`."""
+    if not os.path.isdir(name):
+        return lines_of(name)
+    texts = iter(lines_of(os.path.join(name, "stdout")))
+    records = []
+    for line in lines_of(os.path.join(name, "stdin")):
+        payload, bins = next(texts), next(texts)
+        if bins.startswith("bins 0 "):
+            next(texts), next(texts)
+        records += [line, payload, bins]
+    return records[3 * known :]
+
+
 def main():
     if len(sys.argv) not in (4, 5) or sys.argv[3] not in ("all", "sample"):
         sys.exit(__doc__)
@@ -97,8 +132,7 @@ def main():
         records = list(blocks(folder, name))
         pairs += map(pair, records if which == "all" else sample(records))
     for name in sys.argv[4:]:
-        with open(name, encoding="ascii") as f:
-            lines = f.read().splitlines()
+        lines = more(name, len(pairs))
         pairs += [(lines[k], written(lines[k], lines[k + 1 : k + 3])) for k in range(0, len(lines), 3)]
     with open(os.path.join(out, "stdin"), "w", encoding="ascii") as f:
         f.writelines(line + "\n" for line, _ in pairs)

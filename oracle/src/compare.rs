@@ -1,7 +1,7 @@
 //! One input to both sides and to the model; every result compared.
 use crate::cabac::contexts::ContextSet;
 use crate::cabac::engine;
-use crate::model::{Engine, List, Scans, Walk, walk};
+use crate::model::{Engine, List, Scans, Walk, greatest_row, walk};
 use crate::peer;
 use bulmegart::{Found, Params, Rdpcm, State, read_bins, read_block, write_bins};
 use std::collections::BTreeMap;
@@ -32,6 +32,8 @@ pub struct Bench {
     pub blocks: u64,
     pub wild: u64,
     pub past: u64,
+    /// Accepted blocks in which the Rust's row is not the greatest row of its levels.
+    pub moved: u64,
     pub written: u64,
 }
 
@@ -89,6 +91,7 @@ impl Bench {
             blocks: 0,
             wild: 0,
             past: 0,
+            moved: 0,
             written: 0,
         }
     }
@@ -131,7 +134,7 @@ impl Bench {
         }
         let n2 = 1usize << (2 * i.params.log2);
         let (w, e, after) = self.model(i);
-        self.theirs_agree(i, &w, &e, &after, n2);
+        let last_row = self.theirs_agree(i, &w, &e, &after, n2);
         if self.ours[n2..i.room + 8].iter().any(|&v| v != HELD) {
             differ("places past n·n", i, format!("{r:?}"));
         }
@@ -141,7 +144,9 @@ impl Bench {
                 let state = State { range: e.range, offset: e.offset, position: e.at.min(end), ended: false, past_end: i.state.past_end || past };
                 let Ok((f, next)) = r else { differ("ours refuses", i, format!("ours {r:?}, {w:?}")) };
                 let seen = (f.skip, number_of(f.rdpcm), f.column as usize, f.row as usize, f.greatest as i32);
-                if seen != (w.skip, w.rdpcm, w.column, w.row, w.greatest)
+                let row = greatest_row(&self.theirs[..n2], 1 << i.params.log2);
+                self.moved += (last_row != row) as u64;
+                if seen != (w.skip, w.rdpcm, w.column, row, w.greatest)
                     || next != state
                     || contexts != e.contexts
                     || statistics != after
@@ -182,11 +187,11 @@ impl Bench {
         number
     }
 
-    /// The Rust beside the model's walk, also where document 01 refuses.
-    fn theirs_agree(&mut self, i: &Input, w: &Walk, e: &Engine, after: &[u8; 4], n2: usize) {
+    /// The Rust beside the model's walk, also where document 01 refuses; answers the Rust's row.
+    fn theirs_agree(&mut self, i: &Input, w: &Walk, e: &Engine, after: &[u8; 4], n2: usize) -> usize {
         if w.wild {
             self.wild += 1;
-            return;
+            return w.last_row;
         }
         peer::lend(&mut self.set, &i.contexts, &i.statistics);
         let mut dec = peer::decoder(i.payload, &i.state);
@@ -194,7 +199,7 @@ impl Bench {
         let (mut contexts, mut statistics) = ([0; 120], [0; 4]);
         peer::give_back(&mut self.set, &mut contexts, &mut statistics);
         let place = engine::place(&dec);
-        if (f.skip, f.rdpcm, f.column, f.row, f.greatest) != (w.skip, w.rdpcm, w.column, w.row, w.greatest)
+        if (f.skip, f.rdpcm, f.column, f.row, f.greatest) != (w.skip, w.rdpcm, w.column, w.last_row, w.greatest)
             || (dec.range, dec.offset, place) != (e.range, e.offset, e.at.min(8 * i.payload.len()))
             || contexts != e.contexts
             || statistics != *after
@@ -202,6 +207,7 @@ impl Bench {
         {
             differ("the Rust and the model", i, format!("{f:?} {} {} {place} {statistics:?}\n{w:?} {} {} {} {after:?}", dec.range, dec.offset, e.range, e.offset, e.at));
         }
+        f.row
     }
 
     /// A bin list by ours and by the model.

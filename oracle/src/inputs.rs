@@ -360,6 +360,7 @@ pub fn run(vectors: &str, share: u64, seed: u64) {
     let steps = engine_steps(&mut r, count(4_000_000));
     println!("engine calls compared (decision, bypass, terminate, alignment, restart, raw bits): {steps:?}");
     println!("seed {seed}, blocks {}, of those past the end {}, walks that the Rust's machine decides {}", b.blocks, b.past, b.wild);
+    println!("accepted blocks in which the Rust's row is not the greatest row of its own levels (D15): {}", b.moved);
     println!("lists read: {:?}; of those accepted, written again and refused by 12 in too little room: {}", b.lists, b.written);
     println!("number rule blocks");
     for ((number, rule), n) in &b.answers {

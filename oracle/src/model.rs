@@ -156,7 +156,9 @@ pub struct Walk {
     pub skip: bool,
     pub rdpcm: i32,
     pub column: usize,
+    /// The greatest row that holds a level, and the row of the last coded position, which is the Rust's.
     pub row: usize,
+    pub last_row: usize,
     pub greatest: i32,
     pub refusal: Option<Refusal>,
     /// A shift above 32 bits, which only a refused walk meets: what the Rust then gives is its machine's.
@@ -317,7 +319,7 @@ pub fn walk<S: Source>(s: &mut S, p: &Params, scans: &Scans, statistics: &mut [u
     if p.scan == 2 {
         last.swap(0, 1);
     }
-    out.row = last[1];
+    out.last_row = last[1];
     let (outer, inner) = (scans.of(p.log2 - 2, p.scan), scans.of(2, p.scan));
     let last_sub = outer.iter().position(|&q| q == (last[0] / 4, last[1] / 4)).unwrap();
     let last_place = inner.iter().position(|&q| q == (last[0] % 4, last[1] % 4)).unwrap();
@@ -358,7 +360,13 @@ pub fn walk<S: Source>(s: &mut S, p: &Params, scans: &Scans, statistics: &mut [u
     if out.refusal.is_none() && s.failed() {
         out.refusal = Some(Refusal { number: 13, rule: "list" });
     }
+    out.row = greatest_row(&levels[..n * n], n);
     out
+}
+
+/// The greatest row that holds a level, by looking at every place.
+pub fn greatest_row(levels: &[i32], n: usize) -> usize {
+    levels.iter().enumerate().filter(|(_, v)| **v != 0).map(|(k, _)| k / n).max().unwrap_or(0)
 }
 
 /// Greater1, greater2, alignment, signs and remainders of one sub-block.

@@ -145,7 +145,7 @@ pub struct Found {
     pub rdpcm: Rdpcm,
     /// Greatest x of a level that is not 0.
     pub column: u32,
-    /// Row of the last coded position.
+    /// Greatest y of a level that is not 0. Every place with a greater x than `column` or a greater y than this is 0.
     pub row: u32,
     /// Greatest magnitude.
     pub greatest: u32,

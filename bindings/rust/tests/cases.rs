@@ -89,7 +89,7 @@ fn a_block_from_a_list() {
     let (mut statistics, mut levels) = ([0; 4], [77; 17]);
     let list = [1, 2, 36, 77, 72, 170, 172, 240, 240];
     let found = read_bins(&list, &mut statistics, Params::plain(2), &mut levels).unwrap();
-    assert_eq!((found.column, found.row, found.greatest), (1, 0, 1));
+    assert_eq!((found.column, found.row, found.greatest), (1, 1, 1));
     assert_eq!((levels[0], levels[1], levels[4], levels[16]), (0, 1, 1, 77));
     levels = [77; 17];
     assert_eq!(read_bins(&list[..8], &mut statistics, Params::plain(2), &mut levels), Err(13));

@@ -48,9 +48,9 @@ alignment, level 2|0 36 171 216 b0|extents 0 0, greatest 2, levels 0:2
 alignment, level 3|0 36 171 217 242 b0 b0|extents 0 0, greatest 3, levels 0:3
 alignment, levels 2 and 2|1 2 36 76 73 171 169 216 242 b00 b0|extents 1 0, greatest 2, levels 0:2 1:2
 alignment, eight levels of 1|1 2 37 39 40 87 81 79 85 75 77 73 170 172 174 174 174 174 174 174 b00000000|\
-    extents 2 2, greatest 1, levels 0:1 1:1 2:1 4:1 5:1 8:1 9:1 12:1
+    extents 2 3, greatest 1, levels 0:1 1:1 2:1 4:1 5:1 8:1 9:1 12:1
 alignment, nine levels of 1|1 3 4 37 38 85 87 81 79 85 75 77 73 170 172 174 174 174 174 174 174 242 b000000000 b0|\
-    extents 2 1, greatest 1, levels 0:1 1:1 2:1 4:1 5:1 6:1 8:1 9:1 12:1
+    extents 2 3, greatest 1, levels 0:1 1:1 2:1 4:1 5:1 6:1 8:1 9:1 12:1
 alignment missing|0 36 171 217 b0 b0|number 13, block zero
 alignment without escape data|0 36 170 242 240|number 13, block zero
 ",

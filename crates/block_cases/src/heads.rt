@@ -100,7 +100,7 @@ RDPCM, skip 0: no flag|228 0 36 170 b0|extents 0 0, greatest 1, levels 0:1
     )
 }
 
-// Scan 2 swaps x and y; the row extent is the row behind the swap.
+// Scan 2 swaps x and y; the extents are those behind the swap.
 fn scans(t: Tally) -> Tally {
     let mut p = plain();
     let l = usual();
@@ -138,7 +138,7 @@ fn scans(t: Tally) -> Tally {
         b"
 8x8, scan 2, 1 at (6,1) and (0,5)|7 6 43 43 45 45 47 b0 110 108 108 110 110 108 110 110 112 186 b0 161 108 108 108 108 108 108 108 \
     110 108 108 110 110 108 110 111 112 186 b0 106 106 106 106 106 106 106 106 106 106 106 106 106 106 106 72|\
-    extents 6 1, greatest 1, levels 14:1 40:1
+    extents 6 5, greatest 1, levels 14:1 40:1
 ",
     );
     p.log2 = 4;

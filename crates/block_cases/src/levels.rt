@@ -20,7 +20,7 @@ fn document(t: Tally) -> Tally {
         l,
         b"
 level 1 at (0,0)|0 36 170 240|extents 0 0, greatest 1, levels 0:1
-level 1 at (1,0) and (0,1)|1 2 36 77 72 170 172 240 240|extents 1 0, greatest 1, levels 1:1 4:1
+level 1 at (1,0) and (0,1)|1 2 36 77 72 170 172 240 240|extents 1 1, greatest 1, levels 1:1 4:1
 level 32767|0 36 171 217 b0 b1111 b11111111111110 b11111111111010|extents 0 0, greatest 32767, levels 0:32767
 level 32768|0 36 171 217 b0 b1111 b11111111111110 b11111111111011|number 8, block zero
 level -32768|0 36 171 217 b1 b1111 b11111111111110 b11111111111011|extents 0 0, greatest 32768, levels 0:-32768
@@ -44,9 +44,9 @@ level -4 at (3,3)|1 3 5 37 39 41 88 88 82 88 86 82 80 84 86 80 78 84 74 76 72 17
 levels 2 and 2|1 2 36 76 73 171 169 216 b00 b0|extents 1 0, greatest 2, levels 0:2 1:2
 levels 3 and 1|1 2 36 76 73 171 168 217 b00 b0|extents 1 0, greatest 3, levels 0:1 1:3
 eight levels|1 2 37 39 40 87 81 79 85 75 77 73 170 172 174 174 174 174 174 174 b10010100|\
-    extents 2 2, greatest 1, levels 0:1 1:-1 2:1 4:1 5:-1 8:1 9:-1 12:1
+    extents 2 3, greatest 1, levels 0:1 1:-1 2:1 4:1 5:-1 8:1 9:-1 12:1
 nine levels, the ninth 5|1 3 4 37 38 85 87 81 79 85 75 77 73 170 172 174 174 174 174 174 174 b000000000 b1111 b0 b0|\
-    extents 2 1, greatest 5, levels 0:5 1:1 2:1 4:1 5:1 6:1 8:1 9:1 12:1
+    extents 2 3, greatest 5, levels 0:5 1:1 2:1 4:1 5:1 6:1 8:1 9:1 12:1
 sixteen levels|1 3 5 37 39 41 89 89 83 89 87 83 81 85 87 81 79 85 75 77 73 170 172 175 168 169 169 168 169 217 b1101011010010100 b0 \
     b10 b0 b10 b10 b0 b110 b10 b0 b10 b0 b0|\
     extents 3 3, greatest 3, levels 0:1 1:-2 2:3 3:-1 4:1 5:-2 6:3 7:-1 8:1 9:-2 10:3 11:-1 12:1 13:-2 14:3 15:-1

@@ -3,6 +3,7 @@
 // Document 01 gives the numbers; the other lists, payloads and answers were worked out from it by a model written apart from this code.
 pub mod answered; // answered.rt: an answer, with all that it leaves behind, as text
 mod entries; // entries.rt: 13, and alignment in a list
+mod extents; // extents.rt: column and row extent
 pub mod given; // given.rt: what is handed in
 mod heads; // heads.rt: what stands before the levels
 mod lengths; // lengths.rt: 8 by length, and 8 against 13
@@ -26,5 +27,6 @@ pub fn cases(t: Tally) -> Tally {
     let t = entries::cases(t);
     let t = list_numbers::cases(t);
     let t = payloads::cases(t);
+    let t = extents::cases(t);
     payload_numbers::cases(t)
 }

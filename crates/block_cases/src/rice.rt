@@ -105,7 +105,7 @@ fn limits(t: Tally) -> Tally {
         b"
 Rice stops at 4|1 3 4 36 79 85 75 77 73 171 169 169 169 169 169 217 b010000 b1111 b1111110 b1000011 b1111 b111110 b1000011 b1111 \
     b11110 b1000000 b1111 b1110 b0111001 b1111 b110 b0101010 b1111 b110 b0101011|\
-    extents 2 0, greatest 205, levels 0:205 1:203 2:200 4:204 5:-201 8:202
+    extents 2 2, greatest 205, levels 0:205 1:203 2:200 4:204 5:-201 8:202
 ",
     );
     p.extended = true;
@@ -116,7 +116,7 @@ Rice stops at 4|1 3 4 36 79 85 75 77 73 171 169 169 169 169 169 217 b010000 b111
         b"
 Rice stops at 4, extended|1 3 4 36 79 85 75 77 73 171 169 169 169 169 169 217 b010000 b1111 b1111110 b1000011 b1111 b111110 \
     b1000011 b1111 b11110 b1000000 b1111 b1110 b0111001 b1111 b110 b0101010 b1111 b110 b0101011|\
-    extents 2 0, greatest 205, levels 0:205 1:203 2:200 4:204 5:-201 8:202
+    extents 2 2, greatest 205, levels 0:205 1:203 2:200 4:204 5:-201 8:202
 ",
     );
     p.persistent = true;
@@ -128,7 +128,7 @@ Rice stops at 4, extended|1 3 4 36 79 85 75 77 73 171 169 169 169 169 169 217 b0
         b"
 persistent Rice goes on past 4|1 3 4 36 79 85 75 77 73 171 169 169 169 169 169 217 b010000 b1111 b1110 b0110101 b1111 b110 b0100111 \
     b1111 b10 b0001000 b1110 b001001 b10 b1001010 b10 b1001011|\
-    extents 2 0, greatest 205, levels 0:205 1:203 2:200 4:204 5:-201 8:202, statistics 2:13
+    extents 2 2, greatest 205, levels 0:205 1:203 2:200 4:204 5:-201 8:202, statistics 2:13
 ",
     );
     p.persistent = false;

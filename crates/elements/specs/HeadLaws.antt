@@ -12,7 +12,7 @@ use Rattle.bins.specs.declared.state.Interval.{Interval}
 use Rattle.bins.specs.declared.state.Step.{Step}
 use Rattle.bins.specs.declared.state.Step.the-variants as step
 use Rattle.bins.specs.Engine.{bitNo}
-use Rattle.bins.specs.Syn.{Syn, done, stop, bin, bypass, align, _>>=_, Took, took, refused, Source, Out, onward, run}
+use Rattle.bins.specs.Syn.{Syn, done, bypass, _>>=_, Source, Out, run}
 use Rattle.bins.specs.Readers.{flagIf, bitsS, prefixS}
 use Rattle.bins.specs.Sources.{Cursor, cursor, byCode, bitsFrom, Readable, stepOfBits}
 use Rattle.bins.specs.Laws.{RefusedBy, thenRun, run-bind, bind-ok, bind-no, mapOut}
@@ -25,52 +25,16 @@ use Rattle.residual.specs.Wanted.{Wanted, S, area, outerOf, innerOf}
 use Rattle.residual.specs.Scan.{Spot, spot}
 use Rattle.residual.specs.Layout.{inChroma}
 use Rattle.residual.specs.Head.{Head, headS, groupsS, lastPrefix, lastWanted, leastOf, suffixBits, rdpcmFlag, rdpcmDir, rdpcmOf, skipCoded, rdpcmCoded}
+use Rattle.answers.specs.Every.{AnyNumber, Each, each-done, each-bin, each-bypass, each-if, each-run}
 use Rattle.elements.specs.Agree.{Reads, from, Says, SaysFlag, says-ok, says-no, flag-ok, flag-no, reads-on}
 use Rattle.elements.specs.ShapeLaws.{run-done}
 use Rattle.elements.specs.HeadAgree.{numberOf, placedAt}
 
--- ---- what holds of each answer that a tree has, holds of the answer that a source reads
-unfoldable pub Every : {B A : Type 0} → (A → Type 0) → Syn B A → Type 0
-Every P (done a) = P a
-Every P (stop n) = Unit {0}
-Every P (bin c w k) = (b : Bool) → Every P (k b)
-Every P (bypass w k) = (b : Bool) → Every P (k b)
-Every P (align t) = Every P t
-
-abbrev Answers : {R A : Type 0} → (A → Type 0) → Out R A → Type 0
-Answers P (Out.ok a s) = P a
-Answers P (Out.no n s) = Unit {0}
-
-onward-answers : {R A : Type 0} (P : A → Type 0) (t : Took R) (s : R) (k : Bool → R → Out R A) → ((b : Bool) (s′ : R) → Answers P (k b s′))
-    → Answers P (onward t s k)
-unfolding onward
-onward-answers P (took b s′) s k h = h b s′
-onward-answers P (refused n) s k h = tt
-
-run-answers : {R B A : Type 0} (src : Source R) (P : A → Type 0) (t : Syn B A) (s : R) → Every P t → Answers P (run src t s)
-unfolding run Every
-run-answers src P (done a) s h = h
-run-answers src P (stop n) s h = tt
-run-answers src P (bin c w k) s h =
-    onward-answers P (src .onBin c s) s (λ b s′. run src (k b) s′) (λ b s′. run-answers src P (k b) s′ (h b))
-run-answers src P (bypass w k) s h =
-    onward-answers P (src .onBypass s) s (λ b s′. run src (k b) s′) (λ b s′. run-answers src P (k b) s′ (h b))
-run-answers src P (align t) s h =
-    onward-answers P (src .onAlign s) s (λ b s′. run src t s′) (λ b s′. run-answers src P t s′ h)
-
-pub every-ok : {R B A : Type 0} (src : Source R) (P : A → Type 0) (t : Syn B A) (s : R) (a : A) (s′ : R) → run src t s ≡ Out.ok a s′ → Every P t → P a
-every-ok src P t s a s′ q h = subst (Answers P) q (run-answers src P t s h)
-
--- a prefix counts no further than it may, and n bins make a number of n bits
-every-next : {B : Type 0} (m : ℕ) (t : Syn B ℕ) (g : ℕ) (b : Bool) → Every (λ a. a ≤ m) t → g ≤ m → Every {B = B} (λ a. a ≤ m) (elim b [ true ↦ t | false ↦ done g ])
-unfolding Every
-every-next m t g true h k = h
-every-next m t g false h k = k
-
-pub prefix-every : {B : Type 0} (base sh n g : ℕ) (w : ℕ → B → Bool) (m : ℕ) → g + n ≤ m → Every (λ a. a ≤ m) (prefixS base sh n g w)
-unfolding prefixS Every
-prefix-every base sh zero g w m h = omega arith
-prefix-every base sh (suc n) g w m h = λ b. every-next m (prefixS base sh n (suc g) w) g b (prefix-every base sh n (suc g) w m (omega arith)) (omega arith)
+-- ---- a prefix counts no further than it may, and n bins make a number of n bits
+pub prefix-few : {B : Type 0} (base sh n g : ℕ) (w : ℕ → B → Bool) (m : ℕ) → g + n ≤ m → Each (λ a. a ≤ m) AnyNumber (prefixS base sh n g w)
+unfolding prefixS
+prefix-few base sh zero g w m h = each-done (omega arith)
+prefix-few base sh (suc n) g w m h = each-bin (λ b. each-if b (λ q. prefix-few base sh n (suc g) w m (omega arith)) (λ q. each-done (omega arith)))
 
 bit-few : (b : Bool) → bitNo b ≤ 1
 bit-few true = omega arith
@@ -83,10 +47,10 @@ bits-grow n v m d k h =
     let e : (v + 1) * 2 * 2 ^ n ≡ (v + 1) * 2 ^ suc n = mul-assoc (v + 1) 2 (2 ^ n) ∙ ap (λ i. (v + 1) * i) u in
     omega arith
 
-pub bits-every : {B : Type 0} (n v : ℕ) (w : B → ℕ) (m : ℕ) → (v + 1) * 2 ^ n ≤ m → Every (λ a. a < m) (bitsS n v w)
-unfolding bitsS Every
-bits-every zero v w m h = omega arith
-bits-every (suc n) v w m h = λ b. bits-every n (v * 2 + bitNo b) w m (bits-grow n v m (bitNo b) (bit-few b) h)
+pub bits-few : {B : Type 0} (n v : ℕ) (w : B → ℕ) (m : ℕ) → (v + 1) * 2 ^ n ≤ m → Each (λ a. a < m) AnyNumber (bitsS n v w)
+unfolding bitsS
+bits-few zero v w m h = each-done (omega arith)
+bits-few (suc n) v w m h = each-bypass (λ b. bits-few n (v * 2 + bitNo b) w m (bits-grow n v m (bitNo b) (bit-few b) h))
 
 -- ---- behind some calls: what is left to run gives what the whole gives
 pub record Behind {A : Type 0} (s : Bool) (l : List ℕ) (whole : S A) (x : Interval) (cs : List ℕ) (t : S A) (y : Interval) (ds : List ℕ) : Type 0 where
@@ -357,17 +321,16 @@ pub group-few : (s : Bool) (l : List ℕ) (first : ℕ) (luma : Bool) (log2 : �
     → ((v : Wanted → ℕ) → Says r es (from s l (lastPrefix first luma log2 v) y ds)) → 2 ≤ log2 → log2 ≤ 5
     → (g : ℕ) (z : Interval) → r ≡ step.Bin g z → g ≤ 9
 group-few s l first luma log2 y ds r es e a b g z q =
-    every-ok (byCode s l) (λ i. i ≤ 9) (lastPrefix first luma log2 (λ t. 0)) (cursor y ds) g (cursor z es) (says-ok r g z es _ (e (λ t. 0)) q)
-    (go luma)
+    each-run (byCode s l) (go luma) (cursor y ds) g (cursor z es) (says-ok r g z es _ (e (λ t. 0)) q)
   where
-    go : (luma : Bool) → Every (λ i. i ≤ 9) (lastPrefix first luma log2 (λ t. 0))
-    go true = unfold lastPrefix in prefix-every (first + 3 * (log2 - 2) + (log2 - 1) / 4) ((log2 + 1) / 4) (2 * log2 - 1) 0 (λ g t. leb (leastOf (suc g)) 0) 9 (omega arith)
-    go false = unfold lastPrefix in prefix-every (first + 15) (log2 - 2) (2 * log2 - 1) 0 (λ g t. leb (leastOf (suc g)) 0) 9 (omega arith)
+    go : (luma : Bool) → Each (λ i. i ≤ 9) AnyNumber (lastPrefix first luma log2 (λ t. 0))
+    go true = unfold lastPrefix in prefix-few (first + 3 * (log2 - 2) + (log2 - 1) / 4) ((log2 + 1) / 4) (2 * log2 - 1) 0 (λ g t. leb (leastOf (suc g)) 0) 9 (omega arith)
+    go false = unfold lastPrefix in prefix-few (first + 15) (log2 - 2) (2 * log2 - 1) 0 (λ g t. leb (leastOf (suc g)) 0) 9 (omega arith)
 
 pub suffix-few : (s : Bool) (l : List ℕ) (n g : ℕ) (y : Interval) (r : Step) → Readable s l y → g ≤ 9 → n ≡ suffixBits g
     → r ≡ stepOfBits (bitsFrom s l n y) → (v : ℕ) (z : Interval) → r ≡ step.Bin v z → v < 8
 suffix-few s l n g y r h k a e v z q =
     let m : n ≤ 3 = omega arith in
     let o : (0 + 1) * 2 ^ n ≤ 8 = le-below (λ i. (0 + 1) * 2 ^ i) (λ i. 8) 4 tt n (omega arith) in
-    every-ok (byCode s l) (λ i. i < 8) (bitsS {B = Wanted} n 0 (λ t. 0)) (cursor y []) v (cursor z [])
-    (bits-from s l n (λ t. 0) y [] h ∙ ap (mapOut (λ z. cursor z [])) (bits-took (bitsFrom s l n y) r v z e q)) (bits-every n 0 (λ t. 0) 8 o)
+    each-run (byCode s l) (bits-few {B = Wanted} n 0 (λ t. 0) 8 o) (cursor y []) v (cursor z [])
+    (bits-from s l n (λ t. 0) y [] h ∙ ap (mapOut (λ z. cursor z [])) (bits-took (bitsFrom s l n y) r v z e q))

@@ -18,7 +18,7 @@ use Rattle.residual.specs.Head.{Head}
 use Rattle.residual.specs.Remainder.{signed, inRange, log2TransformRange, riceNext, statNext}
 use Rattle.residual.specs.Limits.{Statistics}
 use Rattle.residual.specs.LimitLaws.{stats-set, range-small, range-most, rice-most, stat-most, cond-most}
-use Rattle.residual.specs.SubBlock.{Due, Filled, negativeNow, columnExtent, levelsS, Acc, sbType, dues, countOf, escapeDataPresent, signHidden, firstGreater1, signsNo, coeffsS}
+use Rattle.residual.specs.SubBlock.{Due, Filled, negativeNow, columnSoFar, levelsS, Acc, sbType, dues, countOf, escapeDataPresent, signHidden, firstGreater1, signsNo, coeffsS}
 use Rattle.exact.specs.TreeLaws.{Writes, writes-done, writes-align, writes-bind, writes-as, Exact, exact-done, exact-stop, exact-align, exact-bind, exact-as}
 use Rattle.exact.specs.ReaderLaws.{clash, writes-if, exact-if, bits-writes, bits-exact, flag-writes-if, flag-exact-if}
 use Rattle.exact.specs.RemainderLaws.{remainder-writes, remainder-exact}
@@ -90,7 +90,7 @@ module _ (p : Params) (lv : ℕ → Wanted → ℤ) (spotOf : ℕ → Spot) (b :
       writes-if (inRange t neg m)
       (λ q. writes-as (levels-writes deep ds (n - 1) signs (cond (d .more) (riceNext p r m) r) (had || d .more) (sum + m) (record {
         levels = l;
-        column = columnExtent (f .column) (spotOf (d .at));
+        column = columnSoFar (f .column) (spotOf (d .at));
         stat = cond (d .more && (p .persistent && not had)) (statNext (f .stat) v) (f .stat);
       })
       (o .1) (a .1) (rw (i .whole) (s .1)) (rw length-set (c .2))
@@ -123,7 +123,7 @@ module _ (p : Params) (lv : ℕ → Wanted → ℤ) (spotOf : ℕ → Spot) (b :
       exact-if (inRange t neg m)
       (λ q. exact-as (levels-exact ds (n - 1) signs (cond (d .more) (riceNext p r m) r) (had || d .more) (sum + m) (record {
         levels = l;
-        column = columnExtent (f .column) (spotOf (d .at));
+        column = columnSoFar (f .column) (spotOf (d .at));
         stat = cond (d .more && (p .persistent && not had)) (statNext (f .stat) v) (f .stat);
       }) (o .1) (rw length-set (c .2)))
       (λ g h.

@@ -1,5 +1,5 @@
 // One sub-block of the block: its 16 levels in the order of its scan, which places have one, and what they come to.
-use reader::block::magnitude;
+use extents::magnitude;
 use residual::params::Params;
 use subblock::levels::cell_of;
 use subblock::places::Places;

@@ -191,7 +191,7 @@ fn read_into(
     r
 }
 
-// One block from a payload.
+// One block from a payload. What the extents say of an accepted block: specs/Reach.antt, `block-reach`.
 pub fn residual_coding(
     bytes: &[u8],
     e: Engine,
@@ -214,7 +214,7 @@ pub fn residual_coding(
     Read::Block(found, state)
 }
 
-// One block from a bin list, which it must end.
+// One block from a bin list, which it must end. What the extents say: specs/Reach.antt, `list-reach`.
 pub fn read_bins(bytes: &[u8], stats: &mut [u8; 4], p: Params, block: &mut [i32]) -> ReadList
     ensures { λ r. ⌜ binsRead r (now (stats .exit)) (now (block .exit)) ≡ readBins (now (bytes .entry)) (now (stats .entry)) p (now (block .entry)) ⌝ }
 {

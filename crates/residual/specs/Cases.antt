@@ -51,7 +51,7 @@ table =
     ∷ bypassCase (0x80 ∷ 0x00 ∷ []) 10 514 11 16 true
     ∷ decisionCase (0xfe ∷ 0x80 ∷ []) 0 true 480 478 64
     ∷ listCase (pos 1 ∷ replicate 15 (pos 0)) (0 ∷ 36 ∷ 170 ∷ 240 ∷ []) 0 0
-    ∷ listCase (pos 0 ∷ pos 1 ∷ pos 0 ∷ pos 0 ∷ pos 1 ∷ replicate 11 (pos 0)) (1 ∷ 2 ∷ 36 ∷ 77 ∷ 72 ∷ 170 ∷ 172 ∷ 240 ∷ 240 ∷ []) 1 0
+    ∷ listCase (pos 0 ∷ pos 1 ∷ pos 0 ∷ pos 0 ∷ pos 1 ∷ replicate 11 (pos 0)) (1 ∷ 2 ∷ 36 ∷ 77 ∷ 72 ∷ 170 ∷ 172 ∷ 240 ∷ 240 ∷ []) 1 1
     ∷ payloadCase (0xfe ∷ 0x80 ∷ []) 154 (negsuc 0 ∷ replicate 15 (pos 0)) 13 480 464 (0 ∷ 18 ∷ 85 ∷ [])
     ∷ hidingCase (pos 1 ∷ replicate 4 (pos 0) ++ (pos 1 ∷ replicate 10 (pos 0))) 0
     ∷ hidingCase (negsuc 0 ∷ replicate 4 (pos 0) ++ (pos 1 ∷ replicate 10 (pos 0))) 11

@@ -4,10 +4,12 @@ pub mod Wanted
 pub mod Head
 pub mod Remainder
 pub mod SubBlock
+pub mod Extent
 pub mod Residual
 pub mod Refusal
 pub mod Numbers
 pub mod Entries
 pub mod Limits
 pub mod LimitLaws
+pub mod ReachLaws
 pub mod Cases

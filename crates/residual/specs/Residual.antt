@@ -14,6 +14,7 @@ use Rattle.residual.specs.Scan.{Spot, spot, numberIn, sigCtx}
 use Rattle.residual.specs.Wanted.{S, area, width, outerOf, innerOf, spotIn, wantedIn, none, sigPlaces}
 use Rattle.residual.specs.Head.{Head, skipOrBypass, headS}
 use Rattle.residual.specs.SubBlock.{Acc, placesS, coeffsS}
+use Rattle.residual.specs.Extent.{columnExtentOf, rowExtentOf}
 
 -- ---- coded_sub_block_flag of the sub-blocks met so far: no neighbour outside the block is coded
 unfoldable pub isCoded : Params → Acc → ℕ → ℕ → Bool
@@ -91,10 +92,6 @@ pub record Block : Type 0 where
   pub levels : List ℤ
   pub stats : List ℕ
 
--- row extent: the row of the last coded position, whatever rows the levels before it lie in
-abbrev pub rowExtent : Head → ℕ
-rowExtent h = h .lastY
-
 unfoldable pub greatestOf : List ℤ → ℕ
 greatestOf [] = 0
 greatestOf (v ∷ l) = max (natAbs v) (greatestOf l)
@@ -116,13 +113,13 @@ bodyS p stats h =
     done (record {
       skip = h .skip;
       rdpcm = h .rdpcm;
-      column = a .column;
-      row = rowExtent h;
+      column = columnExtentOf p (a .levels);
+      row = rowExtentOf p (a .levels);
       greatest = greatestOf (a .levels);
       levels = a .levels;
       stats = a .stats;
     })
 
 unfoldable pub residual : Params → List ℕ → S Block
-unfolding bodyS subBlocksS greatestOf
+unfolding bodyS subBlocksS greatestOf columnExtentOf rowExtentOf
 residual p stats = headS p (outerOf p) (innerOf p) >>= λ h. bodyS p stats h

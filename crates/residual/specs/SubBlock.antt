@@ -95,14 +95,14 @@ dues (k ∷ ks) (false ∷ gs) seen g2 = record { at = k; baseLevel = 1; more = 
 dues (k ∷ ks) (true ∷ gs) false g2 = record { at = k; baseLevel = 2 + bitNo g2; more = g2 } ∷ dues ks gs true g2
 dues (k ∷ ks) (true ∷ gs) true g2 = record { at = k; baseLevel = 2; more = true } ∷ dues ks gs true g2
 
--- column extent: the greatest column of a level, as levels come
-abbrev pub columnExtent : ℕ → Spot → ℕ
-columnExtent column s = max column (s .x)
+-- the greatest column of a level, as levels come. What is answered is defined of the levels (Extent); that it comes to the same is column-gathered (crate extents)
+abbrev pub columnSoFar : ℕ → Spot → ℕ
+columnSoFar column s = max column (s .x)
 
 -- what the levels read so far come to
 pub record Filled : Type 0 where
   pub levels : List ℤ
-  pub column : ℕ  -- column extent
+  pub column : ℕ  -- greatest column of a level so far
   pub stat : ℕ  -- StatCoeff of the block's sbType
 
 -- lv is the level wanted at a place of the sub-block's scan, spotOf where that is in the block; n of the signs are left.
@@ -121,7 +121,7 @@ levelsS p lv spotOf (d ∷ ds) n signs cRiceParam had sumAbsLevel f =
           levelsS p lv spotOf ds (n - 1) signs (cond (d .more) (riceNext p cRiceParam m) cRiceParam) (had || d .more) (sumAbsLevel + m)
           (record {
             levels = set (f .levels) (cellOf p s) (signed neg m);
-            column = columnExtent (f .column) s;
+            column = columnSoFar (f .column) s;
             stat = cond (d .more && (p .persistent && not had)) (statNext (f .stat) v) (f .stat);
           })
     ]
@@ -133,7 +133,7 @@ pub record Acc : Type 0 where
   pub greater1Ctx : ℕ  -- as the sub-block before left it
   pub first : Bool  -- no sub-block had a level yet
   pub levels : List ℤ
-  pub column : ℕ  -- column extent
+  pub column : ℕ  -- greatest column of a level so far
   pub stats : List ℕ  -- StatCoeff
 
 -- sbType (9.3.3.11): which of the statistics the block's remainders use

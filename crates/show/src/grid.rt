@@ -1,5 +1,5 @@
 // The block as a grid: a dot for 0; a level of more than half the greatest magnitude stands in brackets.
-use reader::block::greatest as greatest_of;
+use extents::greatest as greatest_of;
 use report::lines::part;
 use report::write;
 ghost use Prim.Native.Nat.{_≤_};

@@ -69,14 +69,23 @@ fn rdpcm(r: Rdpcm) {
     }
 }
 
+// An extent, and what it says.
+fn reach(name: &[u8], n: u32, beyond: &[u8]) {
+    write::text(name);
+    write::decimal32(n);
+    write::text(beyond);
+    write::decimal32(n);
+    write::line(b" are zero");
+}
+
 pub fn found(f: Found) {
     write::text(b"transform skip      ");
     yes_or_no(f.skip);
     write::text(b"explicit RDPCM      ");
     let direction = f.rdpcm;
     rdpcm(direction);
-    named(b"column extent       ", f.column);
-    named(b"row extent          ", f.row);
+    reach(b"column extent       ", f.column, b", columns beyond ");
+    reach(b"row extent          ", f.row, b", rows beyond ");
     named(b"greatest magnitude  ", f.greatest);
 }
 

@@ -16,7 +16,8 @@ use Rattle.residual.specs.Head.{headS, skipCoded, rdpcmCoded, rdpcmFlag}
 use Rattle.residual.specs.Remainder.{log2TransformRange, inRange}
 use Rattle.residual.specs.Refusal.{notCoded, tooFar, writeRefusal}
 use Rattle.residual.specs.SubBlock.{Acc}
-use Rattle.residual.specs.Residual.{Block, subBlocksS, bodyS, residual, rowExtent, greatestOf}
+use Rattle.residual.specs.Residual.{Block, subBlocksS, bodyS, residual, greatestOf}
+use Rattle.residual.specs.Extent.{columnExtentOf, rowExtentOf}
 use Rattle.elements.specs.declared.head.Head.{Head}
 use Rattle.elements.specs.HeadAgree.{headOf}
 use Rattle.reader.specs.SubsAgree.{begun, lastOf, lastInOf}
@@ -80,8 +81,8 @@ module _ (p : Params) (skip : Bool) (rdpcm : Rdpcm) (levels : List ℤ) (stats s
       let last : Acc → S Block = λ a. done (record {
         skip = hh .skip;
         rdpcm = hh .rdpcm;
-        column = a .column;
-        row = rowExtent hh;
+        column = columnExtentOf p (a .levels);
+        row = rowExtentOf p (a .levels);
         greatest = greatestOf (a .levels);
         levels = a .levels;
         stats = a .stats;

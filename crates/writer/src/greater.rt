@@ -1,7 +1,7 @@
 // coeff_abs_level_greater1_flag of the first eight levels at most, and the one level that may have coeff_abs_level_greater2_flag.
+use extents::magnitude;
 use pen::room::Pen;
 use pen::room::put_bin;
-use reader::block::magnitude;
 use subblock::greater::carry_next;
 use subblock::places::Places;
 ghost use mathlib.Core.Path.{_≡_};

@@ -1,7 +1,7 @@
 // Remainders, highest place first.
+use extents::magnitude;
 use pen::remainder::put_remainder;
 use pen::room::Pen;
-use reader::block::magnitude;
 use residual::params::Params;
 use subblock::levels::Going;
 use subblock::levels::base_of;

@@ -13,7 +13,7 @@ use Rattle.writer.proofs.levels.put_level.Statement.{statement}
 use Rattle.writer.proofs.levels.put_level.Tie as tie
 use Rattle.writer.proofs.levels.put_level.Reads as reads
 use Rattle.writer.proofs.levels.put_level.Lts as lts
-use Rattle.reader.proofs.block.magnitude.Reads as magnitude-reads
+use Rattle.extents.proofs.magnitude.Reads as magnitude-reads
 use Rattle.subblock.proofs.levels.base_of.Reads as base-of-reads
 use Rattle.subblock.proofs.levels.behind.Reads as behind-reads
 use Rattle.writer.proofs.levels.above.Reads as above-reads

@@ -1,0 +1,5 @@
+pub mod GreatestLaws
+pub mod RowLaws
+pub mod ExtentLaws
+pub mod EntryExtents
+pub mod Instance
