@@ -14,8 +14,8 @@ int main(void) {
     bulmegart_params params = {.log2 = 2, .scan = 0, .depth = 8, .luma = 1};
     bulmegart_block_answer block =
         bulmegart_read_block(payload, sizeof payload, start.state, contexts, statistics, params, levels, 16);
-    printf("number %u, greatest magnitude %u, bits drawn %zu, past the end %u\n", block.number, block.found.greatest,
-           block.state.position, block.state.past_end);
+    printf("number %u, greatest magnitude %u, bits drawn %zu, bits past the end %u\n", block.number, block.found.greatest,
+           block.state.position, block.state.past);
     for (int i = 0; i < 16; i++) printf("%4d%s", levels[i], i % 4 == 3 ? "\n" : "");
     return block.number == 0 && levels[0] == -1 && block.state.position == 13 ? 0 : 1;
 }

@@ -11,8 +11,8 @@
  *    0  accepted
  *    1  payload under 2 bytes
  *    2  payload over 16,777,216 bytes
- *    3  impossible state: a context byte above 127; a statistic above 84; a position beyond 8 times the payload length; or, unless ended, not
- *       256 <= range <= 510 with offset < range
+ *    3  impossible state: a context byte above 127; a statistic above 84; a position beyond 8 times the payload length; a total past the
+ *       end above 65,535; or, unless ended, not 256 <= range <= 510 with offset < range
  *    4  parameter out of its limits; also a flag, a byte that should be 0 or 1, above 1
  *    5  starting offset 510 or 511
  *    6  engine has ended
@@ -25,7 +25,8 @@
  *   13  bin reader: list ends early, has another tag, or has bins left over
  * Where several apply: 1, 2, 4, 3, 6, 5, then the order of reading. After any refusal the state, contexts and statistics are those handed in.
  *
- * Bits come high bit first; a bit past the end is 1, leaves the position at the end, and sets `past_end` for good.
+ * Bits come high bit first; a bit past the end is 1, leaves the position at the end, and is counted: `past` of a state is how many such bits
+ * were supplied since bulmegart_start, stopping at 65,535. 0 means that none was: what was read was in the file.
  */
 #ifndef BULMEGART_H
 #define BULMEGART_H
@@ -45,7 +46,7 @@ typedef struct {
     uint32_t offset;   /* below range, unless ended */
     size_t position;   /* bits drawn: the place of the next bit in the payload */
     uint8_t ended;     /* flag: terminate answered 1 */
-    uint8_t past_end;  /* flag: a bit past the end was drawn */
+    uint32_t past;     /* bits past the end supplied since the first start, at most 65,535 */
 } bulmegart_state;
 
 /* A state; after a refusal the one handed in (bulmegart_start: zeros, which every other function answers by 3). */
@@ -150,7 +151,7 @@ bulmegart_state_answer bulmegart_byte_align(const uint8_t *payload, size_t lengt
 /* The rest of the payload behind byte alignment. 1, 2, 4 (flags), 3. */
 bulmegart_rest_answer bulmegart_rest(const uint8_t *payload, size_t length, bulmegart_state state);
 
-/* Restart: align, range 510, 9 bits; ended is cleared, past_end kept. It may read past the end. 1, 2, 4 (flags), 3, 5. */
+/* Restart: align, range 510, 9 bits; ended is cleared, past kept, and added to if it reads past the end. 1, 2, 4 (flags), 3, 5. */
 bulmegart_state_answer bulmegart_restart(const uint8_t *payload, size_t length, bulmegart_state state);
 
 /* Raw bits, 0 to 32 of them, in any phase: range and offset stay. 1, 2, 4 (flags, count), 3. */

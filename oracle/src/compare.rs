@@ -57,6 +57,7 @@ pub fn refused_at_once(i: &Input) -> u32 {
     } else if !size || p.scan > 2 || !(8..=16).contains(&p.depth) || i.room < 1 << (2 * p.log2) {
         4
     } else if s.position > 8 * i.payload.len()
+        || s.past > 65535
         || !s.ended && !((256..=510).contains(&s.range) && s.offset < s.range)
         || i.contexts.iter().any(|&c| c > 127)
         || i.statistics.iter().any(|&c| c > 84)
@@ -141,7 +142,7 @@ impl Bench {
         let number = match w.refusal {
             None => {
                 let (end, past) = (8 * i.payload.len(), e.at > 8 * i.payload.len());
-                let state = State { range: e.range, offset: e.offset, position: e.at.min(end), ended: false, past_end: i.state.past_end || past };
+                let state = State { range: e.range, offset: e.offset, position: e.at.min(end), ended: false, past: (i.state.past as usize + e.at.saturating_sub(end)).min(65535) as u32 };
                 let Ok((f, next)) = r else { differ("ours refuses", i, format!("ours {r:?}, {w:?}")) };
                 let seen = (f.skip, number_of(f.rdpcm), f.column as usize, f.row as usize, f.greatest as i32);
                 let row = greatest_row(&self.theirs[..n2], 1 << i.params.log2);
@@ -207,7 +208,23 @@ impl Bench {
         {
             differ("the Rust and the model", i, format!("{f:?} {} {} {place} {statistics:?}\n{w:?} {} {} {} {after:?}", dec.range, dec.offset, e.range, e.offset, e.at));
         }
+        if e.at > 8 * i.payload.len() {
+            self.theirs_goes_on(i, e);
+        }
         f.row
+    }
+
+    /// The Rust stays at the end. On a payload that goes on in ones it reads the same bits, and its place says how many.
+    fn theirs_goes_on(&mut self, i: &Input, e: &Engine) {
+        let mut long = i.payload.to_vec();
+        long.resize(i.payload.len() + 8192, 255);
+        peer::lend(&mut self.set, &i.contexts, &i.statistics);
+        let mut dec = peer::decoder(&long, &i.state);
+        peer::block(&mut dec, &mut self.set, &i.params, &mut self.theirs);
+        let place = engine::place(&dec);
+        if (dec.range, dec.offset, place) != (e.range, e.offset, e.at) {
+            differ("bits past the end", i, format!("{} {} {place}\n{} {} {}", dec.range, dec.offset, e.range, e.offset, e.at));
+        }
     }
 
     /// A bin list by ours and by the model.

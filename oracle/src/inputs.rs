@@ -48,7 +48,7 @@ pub fn real_blocks(vectors: &str, files: &[&str]) -> Vec<Real> {
                 extended: on(14),
                 depth: number(15),
             };
-            let state = State { range: number(16), offset: number(17), position: number(18) as usize, ended: false, past_end: false };
+            let state = State { range: number(16), offset: number(17), position: number(18) as usize, ended: false, past: 0 };
             out.push(Real {
                 params,
                 state,
@@ -133,7 +133,7 @@ fn state(r: &mut Random, payload: &[u8]) -> State {
     let end = 8 * payload.len();
     let any = r.below(end as u64 + 1) as usize;
     let position = r.of(&[0, end, end - end.min(1), end - end.min(8), end - end.min(9), any, any]);
-    State { range, offset, position, ended: false, past_end: r.chance(8) }
+    State { range, offset, position, ended: false, past: if offset % 32 == 8 { 65535 - offset % 512 } else { 0 } }
 }
 
 /// One thing wrong, so that document 01 refuses at once; now and then two.
@@ -150,7 +150,8 @@ pub fn spoil(r: &mut Random, i: &mut Input) {
             7 => i.state.offset = i.state.range.wrapping_add(r.below(3) as u32),
             8 => i.state.position = 8 * i.payload.len() + 1 + r.below(9) as usize,
             9 => i.state.position = r.of(&[usize::MAX, usize::MAX / 8, 1 << 27]),
-            10 | 11 => i.state.ended = true,
+            10 => i.state.ended = true,
+            11 => i.state.past = 65536 + i.state.offset % 2,
             _ => i.payload = &i.payload[..i.payload.len().min(r.below(2) as usize)],
         }
     }
@@ -232,7 +233,7 @@ fn listed(b: &mut Bench) {
     for length in [long.len() - 2, long.len() - 1, long.len()] {
         let payload = &long[..length];
         assert_eq!(start(payload).err(), (length > 1 << 24).then_some(2));
-        let state = State { range: 510, offset: 9, position: 8 * length - 20, ended: false, past_end: false };
+        let state = State { range: 510, offset: 9, position: 8 * length - 20, ended: false, past: 0 };
         for params in [Params::plain(2), Params::plain(6)] {
             let i = Input { payload, state, contexts: [64; 120], statistics: [0; 4], params, room: 16 };
             b.block(&i, false);
@@ -368,6 +369,15 @@ pub fn run(vectors: &str, share: u64, seed: u64) {
     }
 }
 
+/// The total behind a call. The Rust stays at the end, so it is asked of a payload that goes on in ones: there its place says how many it drew.
+fn total(payload: &[u8], s: &State, call: impl FnOnce(&mut engine::CabacDecoder)) -> u32 {
+    let mut long = payload.to_vec();
+    long.resize(payload.len() + 16, 255);
+    let mut dec = peer::decoder(&long, s);
+    call(&mut dec);
+    (s.past as usize + engine::place(&dec).saturating_sub(8 * payload.len())).min(65535) as u32
+}
+
 /// Runs of engine calls beside the Rust's, until one answers what the Rust does not have. By name and number.
 fn engine_steps(r: &mut Random, runs: u64) -> BTreeMap<(&'static str, u32), u64> {
     let mut counts = BTreeMap::new();
@@ -377,37 +387,38 @@ fn engine_steps(r: &mut Random, runs: u64) -> BTreeMap<(&'static str, u32), u64>
         let mut s = state(r, &payload);
         let mut dec = peer::decoder(&payload, &s);
         for _ in 0..16 {
-            let (name, answer, next) = match r.below(7) {
+            let (name, answer, next, past) = match r.below(7) {
                 0 => {
                     let mut context = r.below(128) as u8;
                     let mut model = crate::cabac::contexts::CtxModel { state: context };
+                    let past = total(&payload, &s, |d| _ = d.decode_bin(&mut crate::cabac::contexts::CtxModel { state: context }));
                     let ours = decision(&payload, s, &mut context);
                     let bin = dec.decode_bin(&mut model);
                     assert_eq!(context, model.state);
-                    ("decision", ours.map(|x| x.0 as u32) == Ok(bin as u32), ours.map(|x| x.1))
+                    ("decision", ours.map(|x| x.0 as u32) == Ok(bin as u32), ours.map(|x| x.1), past)
                 }
                 1 => {
                     let ours = bypass_bin(&payload, s);
                     let bin = dec.decode_bypass();
-                    ("bypass bin", ours.map(|x| x.0 as u32) == Ok(bin as u32), ours.map(|x| x.1))
+                    ("bypass bin", ours.map(|x| x.0 as u32) == Ok(bin as u32), ours.map(|x| x.1), total(&payload, &s, |d| _ = d.decode_bypass()))
                 }
                 2 => {
                     let count = r.below(33) as u32;
                     let ours = bypass(&payload, s, count);
                     let value = dec.decode_bypass_bits(count);
-                    ("bypass", ours.map(|x| x.0) == Ok(value), ours.map(|x| x.1))
+                    ("bypass", ours.map(|x| x.0) == Ok(value), ours.map(|x| x.1), total(&payload, &s, |d| _ = d.decode_bypass_bits(count)))
                 }
                 3 => {
                     let count = r.below(33) as u32;
                     let ours = raw_bits(&payload, s, count);
                     let value = dec.read_pcm_bits(count);
-                    ("raw", ours.map(|x| x.0) == Ok(value), ours.map(|x| x.1))
+                    ("raw", ours.map(|x| x.0) == Ok(value), ours.map(|x| x.1), total(&payload, &s, |d| _ = d.read_pcm_bits(count)))
                 }
                 4 => {
                     let ours = byte_align(&payload, s);
                     dec.byte_align();
                     assert_eq!(rest(&payload, s).unwrap(), &payload[dec.byte_pos..]);
-                    ("alignment", ours.is_ok(), ours)
+                    ("alignment", ours.is_ok(), ours, s.past)
                 }
                 5 => {
                     let ours = restart(&payload, s);
@@ -417,7 +428,7 @@ fn engine_steps(r: &mut Random, runs: u64) -> BTreeMap<(&'static str, u32), u64>
                         assert_eq!(ours, Err(5)); // D1, D10
                         break;
                     }
-                    ("restart", ours.is_ok(), ours)
+                    ("restart", ours.is_ok(), ours, total(&payload, &s, |d| d.reinit_after_pcm()))
                 }
                 _ => {
                     let ours = terminate(&payload, s);
@@ -429,13 +440,13 @@ fn engine_steps(r: &mut Random, runs: u64) -> BTreeMap<(&'static str, u32), u64>
                         *counts.entry(("ended", 6)).or_default() += 1;
                         break;
                     }
-                    ("terminate", ours.map(|x| x.0 as u32) == Ok(bin as u32), ours.map(|x| x.1))
+                    ("terminate", ours.map(|x| x.0 as u32) == Ok(bin as u32), ours.map(|x| x.1), total(&payload, &s, |d| _ = d.decode_terminate()))
                 }
             };
             let next = next.unwrap_or_else(|n| panic!("{name} refused by {n}: {payload:?} {s:?}"));
             assert!(answer, "{name}: {payload:?} {s:?}");
-            assert_eq!((next.range, next.offset, next.position), (dec.range, dec.offset, engine::place(&dec)), "{name}: {payload:?} {s:?}");
-            assert!(next.past_end >= s.past_end && (next.past_end == s.past_end || next.position == 8 * payload.len()));
+            let theirs = (dec.range, dec.offset, engine::place(&dec), past);
+            assert_eq!((next.range, next.offset, next.position, next.past), theirs, "{name}: {payload:?} {s:?}");
             *counts.entry((name, 0)).or_default() += 1;
             s = next;
         }

@@ -32,8 +32,9 @@ fn found(w: &Walk) -> String {
 
 /// The three lines, and the kind; none where the program's input can't say it.
 fn record(b: &mut Bench, i: &Input) -> Option<(String, (u32, &'static str, u32, bool))> {
+    let i = &Input { state: State { past: if i.state.past > 65535 { i.state.past } else { 0 }, ..i.state }, ..*i };
     let (p, s) = (&i.params, &i.state);
-    if s.ended || s.past_end || s.position > u32::MAX as usize || i.payload.len() > 200 || i.room < 1 << (2 * p.log2.min(5)) {
+    if s.ended || s.past != 0 || s.position > u32::MAX as usize || i.payload.len() > 200 || i.room < 1 << (2 * p.log2.min(5)) {
         return None;
     }
     b.block(i, false);
@@ -58,7 +59,7 @@ fn record(b: &mut Bench, i: &Input) -> Option<(String, (u32, &'static str, u32, 
                 e.range,
                 e.offset,
                 e.at.min(end),
-                (e.at > end) as u32,
+                e.at.saturating_sub(end).min(65535),
                 levels(&b.modelled()[..area]),
                 hex(&e.contexts),
                 hex(&after)

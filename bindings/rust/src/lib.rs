@@ -49,8 +49,8 @@ pub struct State {
     pub position: usize,
     /// Terminate answered 1.
     pub ended: bool,
-    /// A bit past the end was drawn.
-    pub past_end: bool,
+    /// Bits past the end supplied since the first start, at most 65,535; 0 if none was.
+    pub past: u32,
 }
 
 /// What the slice and the coding unit have settled before the block.
@@ -160,14 +160,14 @@ impl State {
             offset: self.offset,
             position: self.position,
             ended: self.ended as u8,
-            past_end: self.past_end as u8,
+            past: self.past,
         }
     }
 }
 
 #[inline]
 fn seen(s: RawState) -> State {
-    State { range: s.range, offset: s.offset, position: s.position, ended: s.ended != 0, past_end: s.past_end != 0 }
+    State { range: s.range, offset: s.offset, position: s.position, ended: s.ended != 0, past: s.past }
 }
 
 #[inline]
@@ -252,7 +252,7 @@ pub fn rest(payload: &[u8], state: State) -> Result<&[u8], u32> {
     accepted(r.number, &payload[r.first..])
 }
 
-/// Restart: align, range 510, 9 bits; ended is cleared, past the end kept. Refusals: 1, 2, 3, 5.
+/// Restart: align, range 510, 9 bits; ended is cleared, past kept, and added to if it reads past the end. Refusals: 1, 2, 3, 5.
 pub fn restart(payload: &[u8], state: State) -> Result<State, u32> {
     let r = unsafe { bulmegart_restart(payload.as_ptr(), payload.len(), state.raw()) };
     accepted(r.number, seen(r.state))

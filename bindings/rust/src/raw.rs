@@ -11,7 +11,7 @@ pub struct RawState {
     pub offset: u32,
     pub position: usize,
     pub ended: u8,
-    pub past_end: u8,
+    pub past: u32,
 }
 
 #[repr(C)]

@@ -3,7 +3,7 @@ use bulmegart::raw;
 use bulmegart::*;
 
 fn state(range: u32, offset: u32, position: usize) -> State {
-    State { range, offset, position, ended: false, past_end: false }
+    State { range, offset, position, ended: false, past: 0 }
 }
 
 #[test]
@@ -40,7 +40,7 @@ fn starts() {
 fn bins_of_the_engine() {
     let s = start(&[0x80, 0]).unwrap();
     assert_eq!(bypass(&[0x80, 0], s, 3), Ok((4, state(510, 8, 12))));
-    assert_eq!(bypass(&[0x80, 0], s, 10), Ok((514, State { past_end: true, ..state(510, 11, 16) })));
+    assert_eq!(bypass(&[0x80, 0], s, 10), Ok((514, State { past: 3, ..state(510, 11, 16) })));
     assert_eq!(bypass(&[0x80, 0], s, 33), Err(4));
     assert_eq!(bypass(&[0x80, 0], s, 0), Ok((0, s)));
     assert_eq!(bypass_bin(&[0x80, 0], s), Ok((true, state(510, 2, 10))));
@@ -129,8 +129,8 @@ fn flags_above_1() {
         raw::bulmegart_read_block(payload.as_ptr(), payload.len(), s, contexts.as_mut_ptr(), statistics.as_mut_ptr(), p, levels.as_mut_ptr(), 16)
     };
     let p = Params::plain(2).raw();
-    assert_eq!(read(&payload, raw::RawState { past_end: 2, ..s }, p).number, 4);
-    assert_eq!(read(&payload[..1], raw::RawState { past_end: 2, ..s }, p).number, 1);
+    assert_eq!(read(&payload, raw::RawState { past: 65536, ..s }, p).number, 3);
+    assert_eq!(read(&payload[..1], raw::RawState { past: 65536, ..s }, p).number, 1);
     let bad = raw::RawState { ended: 255, range: 0, ..s };
     assert_eq!(read(&payload, bad, p), raw::RawBlockAnswer { number: 4, found: raw::RawFound { skip: 0, rdpcm: 0, column: 0, row: 0, greatest: 0 }, state: bad });
     for k in 0..11 {

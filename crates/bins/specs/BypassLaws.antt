@@ -12,10 +12,10 @@ use borrow.Author.Tests.{ltb-true, ltb-false}
 use Rattle.bins.specs.declared.state.Interval.{Interval}
 use Rattle.bins.specs.declared.state.Taken.{Taken}
 use Rattle.bins.specs.declared.places.BitPlace.{BitPlace}
-use Rattle.bins.specs.Bits.{bitAt, bits, ends}
+use Rattle.bins.specs.Bits.{bitAt, bits, ends, pastMost}
 use Rattle.bins.specs.BitLaws.{bits-lt, bits-past, bits-add}
 use Rattle.bins.specs.Engine.{bitNo}
-use Rattle.bins.specs.Interval.{placeOf, pastMost, ranOn, Goes, fetchedOn, bypassedOn}
+use Rattle.bins.specs.Interval.{placeOf, ranOn, Goes, fetchedOn, bypassedOn}
 use Rattle.bins.specs.IntervalLaws.{bypassed-goes, bypassed-lt}
 
 -- from where c bits left the place, the next d bits are those behind the c

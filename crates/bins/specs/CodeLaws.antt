@@ -11,10 +11,10 @@ use lib.Dec.{ltb, leb, eqb}
 use borrow.Author.Tests.{ltb-true}
 use Rattle.bins.specs.declared.state.Interval.{Interval}
 use Rattle.bins.specs.declared.state.Taken.{Taken}
-use Rattle.bins.specs.Bits.{bits, ends}
+use Rattle.bins.specs.Bits.{bits, ends, pastMost}
 use Rattle.bins.specs.Engine.{bitNo}
 use Rattle.bins.specs.Tags.{tag, bypassNo, alignTag}
-use Rattle.bins.specs.Interval.{placeOf, pastMost, ranOn, Goes, fetchedOn, decidedOn, bypassedOn}
+use Rattle.bins.specs.Interval.{placeOf, ranOn, Goes, fetchedOn, decidedOn, bypassedOn}
 use Rattle.bins.specs.IntervalLaws.{decided-goes, decided-packed, bypassed-goes, bypassed-lt}
 use Rattle.bins.specs.BypassLaws.{bypassed-add, bypassed-add-next}
 use Rattle.bins.specs.Syn.{Syn, Took, took, refused, Source, Out, run, onward, pickBin, binOf}

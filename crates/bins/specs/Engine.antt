@@ -1,11 +1,11 @@
 -- The arithmetic engine of document 01 (H.265 9.3.2.5 and 9.3.4.3), as functions on its state.
 use Prim.Native.Nat.{ℕ, _+_, _-_, _*_, _/_, _%_, _^_}
 use mathlib.Core.List.{List}
-use mathlib.Core.Bool.{Bool, true, false, not, _||_, cond}
+use mathlib.Core.Bool.{Bool, true, false, not, cond}
 use lib.Dec.{ltb, leb}
 use lib.Count.{leadingZeros}
 use Rattle.bins.specs.declared.state.Engine.{Engine}
-use Rattle.bins.specs.Bits.{bits, after, over}
+use Rattle.bins.specs.Bits.{bits, after, over, added}
 use Rattle.tables.specs.Tables.{valMps, lpsOf, onMps, onLps}
 
 abbrev pub bitNo : Bool → ℕ
@@ -16,7 +16,7 @@ abbrev pub place : Engine → ℕ
 place e = e .at .0
 
 -- ---- bits drawn
--- range r, and o with the next c bits behind it for the offset. Past the end the position stays there, and the mark is set for good
+-- range r, and o with the next c bits behind it for the offset. Past the end the position stays there, and the bits are counted
 unfoldable pub fetched : List ℕ → Engine → ℕ → ℕ → ℕ → Engine
 fetched l e r o c =
     record {
@@ -24,7 +24,7 @@ fetched l e r o c =
       offset = o * 2 ^ c + bits l (place e) c;
       at = record { 0 = after l (place e) c };
       ended = e .ended;
-      past = e .past || over l (place e) c;
+      past = added (e .past) (over l (place e) c);
     }
 
 -- renormalise (9.3.4.3.3): the shift is the number of leading zeros of the range above nine bits
@@ -34,7 +34,7 @@ renormed l e r o = let c = leadingZeros 9 r in fetched l e (r * 2 ^ c) o c
 -- start (9.3.2.5): range 510, offset the first 9 bits
 unfoldable pub started : List ℕ → Engine
 started l =
-    fetched l (record { range = 510; offset = 0; at = record { 0 = 0 }; ended = false; past = false }) 510 0 9
+    fetched l (record { range = 510; offset = 0; at = record { 0 = 0 }; ended = false; past = 0 }) 510 0 9
 
 -- ---- a decision (9.3.4.3.2)
 -- what it comes to before renormalising: the bin, the packed context behind it, range and offset
@@ -94,7 +94,7 @@ terminated l e = terminatedBy (ltb (e .offset) (e .range - 2)) l e
 unfoldable pub rangeAligned : Engine → Engine
 rangeAligned e = record { range = 256; offset = e .offset; at = e .at; ended = e .ended; past = e .past }
 
--- ---- byte alignment: position rounded up to a whole byte; restart: align, range 510, 9 bits; ended cleared, past-the-end kept
+-- ---- byte alignment: position rounded up to a whole byte; restart: align, range 510, 9 bits; ended cleared, the total past the end kept, and added to
 abbrev pub alignedByte : Engine → ℕ
 alignedByte e = (place e + 7) / 8
 
@@ -116,6 +116,6 @@ rawBits l e c =
         offset = e .offset;
         at = record { 0 = after l (place e) c };
         ended = e .ended;
-        past = e .past || over l (place e) c;
+        past = added (e .past) (over l (place e) c);
       };
     }

@@ -2,15 +2,15 @@
 -- Assumes nothing.
 use Prim.Native.Nat.{ℕ, zero, suc, _+_, _-_, _*_, _/_, _%_, _^_, _≤_, _<_, min}
 use mathlib.Core.Path.{_≡_, refl, sym, ap, ap₂, subst, _∙_}
-use mathlib.Core.Bool.{Bool, true, false, _||_, cond}
+use mathlib.Core.Bool.{Bool, true, false, cond}
 use mathlib.Core.List.{List}
 use native.Mathlib.Omega.{arith}
 use lib.ListN.{length, getD, set, length-set}
 use lib.Dec.{ltb, leb}
 use lib.Count.{leadingZeros}
-use borrow.Author.Tests.{ltb-true, ltb-false, le-ltb}
 use Rattle.bins.specs.declared.state.Engine.{Engine}
-use Rattle.bins.specs.Bits.{bitAt, bits, ends, after, over}
+use Rattle.bins.specs.Bits.{bitAt, bits, ends, after, over, pastMost, added}
+use Rattle.bins.specs.BitLaws.{none-over, over-none}
 use Rattle.bins.specs.Engine.{place, fetched, Decided, decided, Drawn, bypassed, rangeAligned, split}
 use Rattle.bins.specs.Interval.{Goes, opened, settled}
 use Rattle.bins.specs.Syn.{Syn, done, stop, bin, bypass, align, Took, took, refused, Source, Out, onward, run, Reading, engineBin, engineBypass, engineAlign, byEngine}
@@ -23,6 +23,7 @@ use Rattle.bins.specs.Settled.{settled-opened, seen, run-opened}
 pub record Runs (l : List ℕ) (e : Engine) : Type 0 where
   pub short : length l ≤ 16777216
   pub fits : place e ≤ ends l
+  pub counts : e .past ≤ pastMost
   pub least : 256 ≤ e .range
   pub most : e .range ≤ 510
   pub below : e .offset < e .range
@@ -37,27 +38,23 @@ Running l n r = Runs l (r .engine) × Packed (r .contexts) × (length (r .contex
 seen-running : {A : Type 0} (l : List ℕ) (n : ℕ) (e : Engine) (o : Out Cursor A) → Ends (Ready false l n) o → Ends (Running l n) (mapOut (seen l e) o)
 unfolding settled
 seen-running l n e (Out.ok a r) h =
-    (record { short = h .readable .short; fits = omega arith; least = h .readable .least; most = h .readable .most; below = h .readable .below }, h .packed, h .many)
+    (record { short = h .readable .short; fits = omega arith; counts = omega arith; least = h .readable .least; most = h .readable .most; below = h .readable .below }, h .packed, h .many)
 seen-running l n e (Out.no m r) h =
-    (record { short = h .readable .short; fits = omega arith; least = h .readable .least; most = h .readable .most; below = h .readable .below }, h .packed, h .many)
+    (record { short = h .readable .short; fits = omega arith; counts = omega arith; least = h .readable .least; most = h .readable .most; below = h .readable .below }, h .packed, h .many)
 
 pub run-running : {B A : Type 0} (l : List ℕ) (n : ℕ) (t : Syn B A) (e : Engine) (cs : List ℕ) → Running l n (record { engine = e; contexts = cs })
     → Ends (Running l n) (run (byEngine l) t (record { engine = e; contexts = cs }))
 run-running l n t e cs h =
     let k = run-keeps (byCode false l) (Ready false l n) (code-keeps false l n) t (cursor (opened e) cs)
     (record { readable = runs-goes l e (h .0); packed = h .1; many = h .2 }) in
-    subst (Ends (Running l n)) (sym (run-opened l e t cs (h .0 .fits))) (seen-running l n e (run (byCode false l) t (cursor (opened e) cs)) k)
+    subst (Ends (Running l n)) (sym (run-opened l e t cs (h .0 .fits) (h .0 .counts))) (seen-running l n e (run (byCode false l) t (cursor (opened e) cs)) k)
 
 -- ---- the position only grows, and stays within the payload
--- from e to f: the position has grown within l, and the mark was not taken back
+-- from e to f: the position has grown within l, and the total was not taken back
 pub record Grows (l : List ℕ) (e f : Engine) : Type 0 where
   pub up : place e ≤ place f
   pub fits : place f ≤ ends l
-  pub clean : f .past ≡ false → e .past ≡ false
-
-or-false : (a b : Bool) → (a || b) ≡ false → (a ≡ false) × (b ≡ false)
-or-false true b e = (e, let z : _≡_ {A = ℕ} 0 1 = cc in absurd (omega arith))
-or-false false b e = (refl, e)
+  pub clean : f .past ≡ 0 → e .past ≡ 0
 
 grows-refl : (l : List ℕ) (e : Engine) → place e ≤ ends l → Grows l e e
 grows-refl l e h = record { up = omega arith; fits = h; clean = λ q. q }
@@ -67,7 +64,7 @@ grows-trans l e f g a b = record { up = omega arith; fits = b .fits; clean = λ 
 
 fetched-grows : (l : List ℕ) (e : Engine) (r o c : ℕ) → place e ≤ ends l → Grows l e (fetched l e r o c)
 unfolding fetched
-fetched-grows l e r o c h = record { up = omega arith; fits = omega arith; clean = λ q. or-false (e .past) (over l (place e) c) q .0 }
+fetched-grows l e r o c h = record { up = omega arith; fits = omega arith; clean = λ q. omega arith }
 
 decided-grows : (l : List ℕ) (e : Engine) (ctx : ℕ) → place e ≤ ends l → Grows l e (decided l e ctx .next)
 unfolding decided
@@ -95,11 +92,11 @@ engine-grows l e =
       atAlign = λ r g. align-grows l e r (ltb (r .engine .offset) 256) g;
     }
 
-pub stateOf : {S A : Type 0} → Out S A → S
+unfoldable pub stateOf : {S A : Type 0} → Out S A → S
 stateOf (Out.ok a s) = s
 stateOf (Out.no n s) = s
 
-ends-state : {S A : Type 0} (P : S → Type 0) (o : Out S A) → Ends P o → P (stateOf o)
+pub ends-state : {S A : Type 0} (P : S → Type 0) (o : Out S A) → Ends P o → P (stateOf o)
 unfolding stateOf
 ends-state P (Out.ok a s) h = h
 ends-state P (Out.no n s) h = h
@@ -128,35 +125,35 @@ bits-agree l m p (suc c) a =
 pub record Inside (l m : List ℕ) (f : Engine) : Type 0 where
   pub room : place f ≤ ends m
   pub same : Agree l m (place f)
-  pub drew : f .past ≡ false
+  pub drew : f .past ≡ 0
 
 inside-before : (l m : List ℕ) (e f : Engine) → Grows l e f → Inside l m f → Inside l m e
 inside-before l m e f g s =
     record { room = omega (arith, g .up, s .room); same = agree-less l m (place e) (place f) (g .up) (s .same); drew = g .clean (s .drew) }
 
-fetched-local : (l m : List ℕ) (e : Engine) (r o c : ℕ) → Inside l m (fetched l e r o c) → fetched l e r o c ≡ fetched m e r o c
+fetched-local : (l m : List ℕ) (e : Engine) (r o c : ℕ) → place e ≤ ends l → Inside l m (fetched l e r o c) → fetched l e r o c ≡ fetched m e r o c
 unfolding fetched
-fetched-local l m e r o c s =
-    let u = or-false (e .past) (over l (place e) c) (s .drew) in
-    let fit : place e + c ≤ ends l = ltb-false (ends l) (place e + c) (u .1) in
+fetched-local l m e r o c h s =
+    let fit : place e + c ≤ ends l = none-over l (place e) c (e .past) h (s .drew) in
     let here : after l (place e) c ≡ place e + c = omega arith in
     let fit′ : place e + c ≤ ends m = omega (arith, here, s .room) in
     let there : after m (place e) c ≡ place e + c = omega arith in
-    let none : over m (place e) c ≡ false = le-ltb (ends m) (place e + c) fit′ in
+    let none : over l (place e) c ≡ 0 = over-none l (place e) c fit in
+    let none′ : over m (place e) c ≡ 0 = over-none m (place e) c fit′ in
     let same : bits l (place e) c ≡ bits m (place e) c = bits-agree l m (place e) c (rw here at (s .same)) in
     cc
 
-decided-local : (l m : List ℕ) (e : Engine) (ctx : ℕ) → Inside l m (decided l e ctx .next) → decided l e ctx ≡ decided m e ctx
+decided-local : (l m : List ℕ) (e : Engine) (ctx : ℕ) → place e ≤ ends l → Inside l m (decided l e ctx .next) → decided l e ctx ≡ decided m e ctx
 unfolding decided
-decided-local l m e ctx s =
+decided-local l m e ctx h s =
     let p = split (e .range) (e .offset) ctx in
     let c = leadingZeros 9 (p .range) in
-    ap (λ (n : Engine). record { bit = p .bit; ctx = p .ctx; next = n }) (fetched-local l m e (p .range * 2 ^ c) (p .offset) c s)
+    ap (λ (n : Engine). record { bit = p .bit; ctx = p .ctx; next = n }) (fetched-local l m e (p .range * 2 ^ c) (p .offset) c h s)
 
-bypassed-local : (l m : List ℕ) (e : Engine) (c : ℕ) → Inside l m (bypassed l e c .next) → bypassed l e c ≡ bypassed m e c
+bypassed-local : (l m : List ℕ) (e : Engine) (c : ℕ) → place e ≤ ends l → Inside l m (bypassed l e c .next) → bypassed l e c ≡ bypassed m e c
 unfolding bypassed
-bypassed-local l m e c s =
-    let q = fetched-local l m e (e .range) (e .offset) c (record { room = s .room; same = s .same; drew = s .drew }) in
+bypassed-local l m e c h s =
+    let q = fetched-local l m e (e .range) (e .offset) c h (record { room = s .room; same = s .same; drew = s .drew }) in
     ap (λ (f : Engine). record { value = f .offset / e .range; next = record { range = e .range; offset = f .offset % e .range; at = f .at; ended = e .ended; past = f .past } }) q
 
 -- an alignment that both refuse, or neither
@@ -180,7 +177,7 @@ run-local l m (bin c w k) r h s =
     let g = decided-grows l (r .engine) (getD (r .contexts) c 0) h in
     let r′ : Reading = record { engine = d .next; contexts = set (r .contexts) c (d .ctx) } in
     let rest = run-grows l (k (d .bit)) r′ (g .fits) in
-    let step = decided-local l m (r .engine) (getD (r .contexts) c 0) (inside-before l m (d .next) (stateOf (run (byEngine l) (k (d .bit)) r′) .engine) rest s) in
+    let step = decided-local l m (r .engine) (getD (r .contexts) c 0) h (inside-before l m (d .next) (stateOf (run (byEngine l) (k (d .bit)) r′) .engine) rest s) in
     run-local l m (k (d .bit)) r′ (g .fits) s
     ∙ ap (λ (z : Decided). run (byEngine m) (k (z .bit)) (record { engine = z .next; contexts = set (r .contexts) c (z .ctx) })) step
 run-local l m (bypass w k) r h s =
@@ -188,7 +185,7 @@ run-local l m (bypass w k) r h s =
     let g = bypassed-grows l (r .engine) 1 h in
     let r′ : Reading = record { engine = d .next; contexts = r .contexts } in
     let rest = run-grows l (k (leb 1 (d .value))) r′ (g .fits) in
-    let step = bypassed-local l m (r .engine) 1 (inside-before l m (d .next) (stateOf (run (byEngine l) (k (leb 1 (d .value))) r′) .engine) rest s) in
+    let step = bypassed-local l m (r .engine) 1 h (inside-before l m (d .next) (stateOf (run (byEngine l) (k (leb 1 (d .value))) r′) .engine) rest s) in
     run-local l m (k (leb 1 (d .value))) r′ (g .fits) s
     ∙ ap (λ (z : Drawn). run (byEngine m) (k (leb 1 (z .value))) (record { engine = z .next; contexts = r .contexts })) step
 run-local l m (align t) r h s =

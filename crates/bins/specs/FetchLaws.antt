@@ -1,15 +1,20 @@
 -- Several bits at once are the bits one by one: the 32 of four bytes, and a part of those. Assumes nothing.
 use Prim.Native.Nat.{ℕ, zero, suc, _+_, _-_, _*_, _/_, _%_, _^_, _≤_, _<_}
 use mathlib.Core.Path.{_≡_, refl, sym, ap, ap₂, _∙_}
+use mathlib.Core.Bool.{Bool, true, false}
 use mathlib.Core.List.{List}
 use native.Mathlib.Nat.{mul-le-mul-right, mod-eq-of-lt, div-eq-of-lt, div-div-eq-div-mul, div-one, pow-suc}
 use native.Mathlib.Omega.{arith}
 use lib.Arith.{digits-div, digits-mod}
 use lib.ListN.{length, getD}
+use lib.Dec.{ltb}
 use lib.Pow.{pow-add, pow-pos}
-use Rattle.bins.specs.Bits.{bitAt, bits}
-use Rattle.bins.specs.Interval.{ranOn}
-use Rattle.bins.specs.BitLaws.{bits-add, bits-lt, bits-below}
+use borrow.Author.Tests.{ltb-true, ltb-false}
+use Rattle.bins.specs.declared.fetch.Drawn.{Drawn}
+use Rattle.bins.specs.declared.places.BitPlace.{BitPlace}
+use Rattle.bins.specs.Bits.{bitAt, bits, ends, over}
+use Rattle.bins.specs.Interval.{ranOn, supplied}
+use Rattle.bins.specs.BitLaws.{bits-add, bits-lt, bits-below, over-out, over-none}
 use Rattle.bins.specs.BypassLaws.{bits-ran}
 
 -- w is the four bytes at i, the first the lowest
@@ -111,20 +116,68 @@ drawn l p i w c e q h =
     let at : 8 * i + s ≡ p = omega arith in
     rw (q, ← m) (rw (n, at) at (part-of l (8 * i) s c d))
 
+-- where four bytes are left, none of the c bits lies past the end
+pub drawn-word : (l : List ℕ) (p i w c : ℕ) → i ≡ p / 8 → w ≡ bits l (8 * i) 32 → c ≤ 16 → i + 4 ≤ length l
+    → _≡_ {A = Drawn} (record { bits = w * 2 ^ (p % 8) % 4294967296 / 2 ^ (32 - c); next = record { 0 = p + c }; past = 0 }) (supplied l p c)
+drawn-word l p i w c e q h k =
+    let b = drawn l p i w c e q h in
+    let inside : p + c ≤ ends l = omega arith in
+    let n : p + c ≡ ranOn l p c = omega arith in
+    let o : 0 ≡ over l p c = sym (over-none l p c inside) in
+    cc
+
+pub drawn-parts : (l : List ℕ) (p c b n : ℕ) (next : BitPlace) → b ≡ bits l p c → next .0 ≡ ranOn l p c → n ≡ over l p c
+    → _≡_ {A = Drawn} (record { bits = b; next = next; past = n }) (supplied l p c)
+drawn-parts l p c b n next x y z =
+    let w : next ≡ record { 0 = ranOn l p c } = ap (λ (k : ℕ). record { 0 = k }) y in cc
+
+-- past the end: those of c bits, and of d more from where the c left the place
+over-ran : (l : List ℕ) (p c d : ℕ) → over l p c + over l (ranOn l p c) d ≡ over l p (c + d)
+over-ran l p c d = go (ltb (ends l) (p + c)) refl
+  where
+    go : (b : Bool) → ltb (ends l) (p + c) ≡ b → over l p c + over l (ranOn l p c) d ≡ over l p (c + d)
+    go true q =
+        let k : ends l < p + c = ltb-true (ends l) (p + c) q in
+        rw (over-out l (ranOn l p c) d (omega arith)) (omega arith)
+    go false q =
+        let k : p + c ≤ ends l = ltb-false (ends l) (p + c) q in
+        let s : ranOn l p c ≡ p + c = omega arith in
+        rw (s, over-none l p c k) (omega arith)
+
 -- 16 bits, and the rest of them from where those left the place
-module _ (l : List ℕ) (p c a b q : ℕ) (h : 16 ≤ c) (k : c ≤ 32) (x : a ≡ bits l p 16) (y : q ≡ ranOn l p 16) (z : b ≡ bits l q (c - 16)) where
-  both : bits l p c ≡ a * 2 ^ (c - 16) + b
+module _ (l : List ℕ) (p c : ℕ) (high low : Drawn) (h : 16 ≤ c) (k : c ≤ 32) (x : high ≡ supplied l p 16) (y : low ≡ supplied l (high .next .0) (c - 16)) where
+  rest-at : low ≡ supplied l (ranOn l p 16) (c - 16)
+  rest-at = y ∙ ap (λ (d : Drawn). supplied l (d .next .0) (c - 16)) x
+
+  both : bits l p c ≡ high .bits * 2 ^ (c - 16) + low .bits
   both =
       let e : 16 + (c - 16) ≡ c = omega arith in
       let t : bits l p c ≡ bits l p 16 * 2 ^ (c - 16) + bits l (p + 16) (c - 16) = rw e at (bits-add l p 16 (c - 16)) in
-      let u : b ≡ bits l (p + 16) (c - 16) = z ∙ ap (λ (j : ℕ). bits l j (c - 16)) y ∙ bits-ran l p 16 (c - 16) in
-      rw (x, u) t
+      let u : low .bits ≡ bits l (p + 16) (c - 16) = ap (λ (d : Drawn). d .bits) rest-at ∙ bits-ran l p 16 (c - 16) in
+      let v : high .bits ≡ bits l p 16 = ap (λ (d : Drawn). d .bits) x in
+      rw (v, u) t
 
-  high-small : a * 2 ^ (c - 16) < 4294967296
+  high-small : high .bits * 2 ^ (c - 16) < 4294967296
   high-small = omega (arith, both, bits-below l p c 32 k)
 
-  pub joined : a * 2 ^ (c - 16) % 4294967296 + b ≡ bits l p c
-  joined = rw (mod-eq-of-lt high-small) (sym both)
+  joined-bits : high .bits * 2 ^ (c - 16) % 4294967296 + low .bits ≡ bits l p c
+  joined-bits = rw (mod-eq-of-lt high-small) (sym both)
 
-  pub joined-small : a * 2 ^ (c - 16) % 4294967296 + b < 4294967296
-  joined-small = rw joined (bits-below l p c 32 k)
+  joined-past : high .past + low .past ≡ over l p c
+  joined-past =
+      let e : 16 + (c - 16) ≡ c = omega arith in
+      let v : high .past ≡ over l p 16 = ap (λ (d : Drawn). d .past) x in
+      let u : low .past ≡ over l (ranOn l p 16) (c - 16) = ap (λ (d : Drawn). d .past) rest-at in
+      rw (v, u) (rw e at (over-ran l p 16 (c - 16)))
+
+  pub joined-small : high .bits * 2 ^ (c - 16) % 4294967296 + low .bits < 4294967296
+  joined-small = rw joined-bits (bits-below l p c 32 k)
+
+  pub joined-few : high .past + low .past ≤ 32
+  joined-few = rw joined-past (omega arith)
+
+  pub joined : _≡_ {A = Drawn} (record { bits = high .bits * 2 ^ (c - 16) % 4294967296 + low .bits; next = low .next; past = high .past + low .past }) (supplied l p c)
+  joined =
+      let q : low .next .0 ≡ ranOn l (ranOn l p 16) (c - 16) = ap (λ (d : Drawn). d .next .0) rest-at in
+      let n : ranOn l (ranOn l p 16) (c - 16) ≡ ranOn l p c = omega arith in
+      drawn-parts l p c _ _ (low .next) joined-bits (q ∙ n) joined-past

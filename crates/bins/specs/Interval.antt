@@ -1,26 +1,26 @@
 -- The engine inside a block: range, offset and a place that runs on past the end. What the caller sees of it is cut to the end
 -- once, where the block is done; that this is what document 01's engine gives, cut at each fetch, is proved in `Settled`.
-use Prim.Native.Nat.{ℕ, _+_, _*_, _/_, _%_, _^_, _≤_, _<_, min}
+use Prim.Native.Nat.{ℕ, _+_, _-_, _*_, _/_, _%_, _^_, _≤_, _<_, min}
 use mathlib.Core.List.{List}
-use mathlib.Core.Bool.{Bool, _||_}
+use mathlib.Core.Bool.{Bool}
 use lib.ListN.{length}
-use lib.Dec.{ltb}
 use lib.Count.{leadingZeros}
 use Rattle.bins.specs.declared.state.Engine.{Engine}
 use Rattle.bins.specs.declared.state.Interval.{Interval}
 use Rattle.bins.specs.declared.state.Taken.{Taken}
-use Rattle.bins.specs.Bits.{bits, ends}
+use Rattle.bins.specs.declared.fetch.Drawn.{Drawn}
+use Rattle.bins.specs.Bits.{bits, ends, over, pastMost, added}
 use Rattle.bins.specs.Engine.{bitNo, split}
 
 abbrev pub placeOf : Interval → ℕ
 placeOf x = x .at .0
 
--- how far past the end a place is followed
-abbrev pub pastMost : ℕ
-pastMost = 65535
-
 abbrev pub ranOn : List ℕ → ℕ → ℕ → ℕ
 ranOn l p c = min (p + c) (ends l + pastMost)
+
+-- what the fetch of c bits at p answers: the bits, the place behind them, and how many of them it supplied past the end
+abbrev pub supplied : List ℕ → ℕ → ℕ → Drawn
+supplied l p c = record { bits = bits l p c; next = record { 0 = ranOn l p c }; past = over l p c }
 
 -- an interval that the engine can have while it runs, over a payload of admitted length
 pub record Goes (l : List ℕ) (x : Interval) : Type 0 where
@@ -72,7 +72,7 @@ bypassedOn l x c =
 abbrev pub opened : Engine → Interval
 opened e = record { range = e .range; offset = e .offset; at = e .at }
 
--- e is the state that the interval was opened from
+-- e is the state that the interval was opened from; the place has run on past the end by as many bits as were drawn there
 unfoldable pub settled : List ℕ → Engine → Interval → Engine
 settled l e x =
     record {
@@ -80,5 +80,5 @@ settled l e x =
       offset = x .offset;
       at = record { 0 = min (placeOf x) (ends l) };
       ended = e .ended;
-      past = e .past || ltb (ends l) (placeOf x);
+      past = added (e .past) (placeOf x - ends l);
     }

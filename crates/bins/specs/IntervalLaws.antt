@@ -14,12 +14,12 @@ use borrow.Author.Tests.{ltb-true, ltb-false}
 use Rattle.bins.specs.declared.state.Interval.{Interval}
 use Rattle.bins.specs.declared.state.Taken.{Taken}
 use Rattle.bins.specs.declared.places.BitPlace.{BitPlace}
-use Rattle.bins.specs.Bits.{bitAt, bits, ends}
+use Rattle.bins.specs.Bits.{bitAt, bits, ends, pastMost}
 use Rattle.bins.specs.BitLaws.{bits-lt, bits-past, bits-add, bit-lt}
 use Rattle.tables.specs.Tables.{entryOf}
 use Rattle.bins.specs.Engine.{bitNo, split}
 use Rattle.bins.specs.EngineLaws.{shifted, splits, split-packed, SplitIs, split-is}
-use Rattle.bins.specs.Interval.{placeOf, pastMost, ranOn, Goes, Renorms, fetchedOn, renormedOn, DecidedOn, decidedOn, decidedValue, bypassedOn}
+use Rattle.bins.specs.Interval.{placeOf, ranOn, Goes, Renorms, fetchedOn, renormedOn, DecidedOn, decidedOn, decidedValue, bypassedOn}
 
 -- ---- renormalising
 pub renormed-goes : (l : List ℕ) (x : Interval) (r o : ℕ) → Renorms l x r o → Goes l (renormedOn l x r o)

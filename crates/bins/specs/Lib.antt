@@ -15,6 +15,8 @@ pub mod Settled
 pub mod Listed
 pub mod CodeLaws
 pub mod EngineRuns
+pub mod Totals
+pub mod Raised
 pub mod WriteLaws
 pub mod StepLaws
 pub mod SourceLaws

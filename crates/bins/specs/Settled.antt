@@ -2,36 +2,32 @@
 -- Assumes nothing.
 use Prim.Native.Nat.{ℕ, zero, suc, _+_, _-_, _*_, _/_, _%_, _^_, _≤_, _<_, min}
 use mathlib.Core.Path.{_≡_, refl, sym, ap, _∙_}
-use mathlib.Core.Bool.{Bool, true, false, _||_, cond}
+use mathlib.Core.Bool.{Bool, true, false, cond}
 use mathlib.Core.List.{List}
 use native.Mathlib.Omega.{arith}
 use lib.ListN.{length, getD, set}
 use lib.Dec.{ltb, leb}
 use lib.Count.{leadingZeros}
-use borrow.Author.Tests.{ltb-true, ltb-false, lt-ltb, le-ltb}
+use borrow.Author.Tests.{ltb-true, ltb-false}
 use Rattle.bins.specs.declared.state.Engine.{Engine}
 use Rattle.bins.specs.declared.state.Interval.{Interval}
 use Rattle.bins.specs.declared.state.Taken.{Taken}
-use Rattle.bins.specs.Bits.{bits, ends, after, over}
-use Rattle.bins.specs.BitLaws.{bits-past}
+use Rattle.bins.specs.Bits.{bits, ends, after, over, pastMost, added}
+use Rattle.bins.specs.BitLaws.{bits-past, over-run}
 use Rattle.bins.specs.Engine.{place, fetched, renormed, Split, split, Decided, decided, Drawn, bypassed, rangeAligned}
-use Rattle.bins.specs.Interval.{placeOf, pastMost, ranOn, fetchedOn, renormedOn, DecidedOn, decidedOn, bypassedOn, opened, settled}
+use Rattle.bins.specs.Interval.{placeOf, ranOn, fetchedOn, renormedOn, DecidedOn, decidedOn, bypassedOn, opened, settled}
 use Rattle.bins.specs.Syn.{Syn, Took, took, refused, Source, Out, run, Reading, engineBin, engineBypass, engineAlign, byEngine}
 use Rattle.bins.specs.Sources.{Cursor, cursor, withContexts, byCode, binFrom, contextFrom, bypassFrom, alignFrom}
 use Rattle.bins.specs.Laws.{Follows, Any, keeps-any, mapTook, mapOut, run-follows}
 
--- a state that stands within its payload is what opening and settling gives
-pub settled-opened : (l : List ℕ) (e : Engine) → place e ≤ ends l → settled l e (opened e) ≡ e
+-- a state that stands within its payload, with a total that counts, is what opening and settling gives
+pub settled-opened : (l : List ℕ) (e : Engine) → place e ≤ ends l → e .past ≤ pastMost → settled l e (opened e) ≡ e
 unfolding settled
-settled-opened l e h =
+settled-opened l e h k =
     let a : min (place e) (ends l) ≡ place e = omega arith in
-    let p : (e .past || ltb (ends l) (place e)) ≡ e .past = rw (le-ltb (ends l) (place e) h) (or-right (e .past)) in
+    let p : added (e .past) (place e - ends l) ≡ e .past = omega arith in
     let q : settled l e (opened e) ≡ record { range = e .range; offset = e .offset; at = record { 0 = place e }; ended = e .ended; past = e .past } = cc in
     q
-  where
-    or-right : (b : Bool) → (b || false) ≡ b
-    or-right true = refl
-    or-right false = refl
 
 -- ---- one fetch
 bits-cut : (l : List ℕ) (p c : ℕ) → bits l (min p (ends l)) c ≡ bits l p c
@@ -45,23 +41,12 @@ bits-cut l p c = go (ltb (ends l) p) refl
         let s : min p (ends l) ≡ p = omega arith in
         ap (λ x. bits l x c) s
 
-over-cut : (l : List ℕ) (p c : ℕ) (b : Bool) → ((b || ltb (ends l) p) || over l (min p (ends l)) c) ≡ (b || ltb (ends l) (ranOn l p c))
-over-cut l p c true = refl
-over-cut l p c false = go (ltb (ends l) p) refl
+-- bits past the end are counted by the fetch, or by the place that ran on: the same, whatever the total n was
+over-cut : (l : List ℕ) (p c n : ℕ) → added (added n (p - ends l)) (over l (min p (ends l)) c) ≡ added n (ranOn l p c - ends l)
+over-cut l p c n = over-run l p c n ∙ stops (p + c - ends l) (ranOn l p c - ends l) (omega arith)
   where
-    go : (b : Bool) → ltb (ends l) p ≡ b → (b || over l (min p (ends l)) c) ≡ ltb (ends l) (ranOn l p c)
-    go true q = let h = ltb-true (ends l) p q in sym (lt-ltb (ends l) (ranOn l p c) (omega arith))
-    go false q = more (over l p c) refl
-      where
-        more : (b : Bool) → over l p c ≡ b → (over l (min p (ends l)) c) ≡ ltb (ends l) (ranOn l p c)
-        more true u =
-            let h = ltb-false (ends l) p q in
-            let k = ltb-true (ends l) (p + c) u in
-            lt-ltb (ends l) (min p (ends l) + c) (omega arith) ∙ sym (lt-ltb (ends l) (ranOn l p c) (omega arith))
-        more false u =
-            let h = ltb-false (ends l) p q in
-            let k = ltb-false (ends l) (p + c) u in
-            le-ltb (ends l) (min p (ends l) + c) (omega arith) ∙ sym (le-ltb (ends l) (ranOn l p c) (omega arith))
+    stops : (j k : ℕ) → k ≡ min j pastMost → added n j ≡ added n k
+    stops j k h = omega arith
 
 pub settled-fetched : (l : List ℕ) (e : Engine) (x : Interval) (r o c : ℕ)
     → fetched l (settled l e x) r o c ≡ settled l e (fetchedOn l x r o c)
@@ -122,7 +107,7 @@ pub run-settled : {B A : Type 0} (l : List ℕ) (e : Engine) (t : Syn B A) (x : 
     → run (byEngine l) t (record { engine = settled l e x; contexts = cs }) ≡ mapOut (seen l e) (run (byCode false l) t (cursor x cs))
 run-settled l e t x cs = run-follows (byCode false l) (byEngine l) (seen l e) Any (engine-follows l e) t (cursor x cs) tt
 
-pub run-opened : {B A : Type 0} (l : List ℕ) (e : Engine) (t : Syn B A) (cs : List ℕ) → place e ≤ ends l
+pub run-opened : {B A : Type 0} (l : List ℕ) (e : Engine) (t : Syn B A) (cs : List ℕ) → place e ≤ ends l → e .past ≤ pastMost
     → run (byEngine l) t (record { engine = e; contexts = cs }) ≡ mapOut (seen l e) (run (byCode false l) t (cursor (opened e) cs))
-run-opened l e t cs h =
-    ap (λ (f : Engine). run (byEngine l) t (record { engine = f; contexts = cs })) (sym (settled-opened l e h)) ∙ run-settled l e t (opened e) cs
+run-opened l e t cs h k =
+    ap (λ (f : Engine). run (byEngine l) t (record { engine = f; contexts = cs })) (sym (settled-opened l e h k)) ∙ run-settled l e t (opened e) cs

@@ -4,9 +4,9 @@ use crate::places::byte_of;
 ghost use mathlib.Core.Path.{_≡_};
 ghost use Prim.Native.Nat.{_+_, _*_, _/_, _%_, _≤_, _<_};
 ghost use lib.ListN.{length, getD};
-ghost use Rattle.bins.specs.Bits.{bitAt, bits, ends};
+ghost use Rattle.bins.specs.Bits.{bitAt, bits, ends, over, pastMost};
 ghost use Rattle.bins.specs.FetchLaws.{LowFirst};
-ghost use Rattle.bins.specs.Interval.{ranOn, pastMost};
+ghost use Rattle.bins.specs.Interval.{ranOn, supplied};
 
 fn bit_at(bytes: &[u8], at: BitPlace) -> u32
     ensures { λ r. ⌜ r ≡ bitAt (now (bytes .entry)) (at .0) ⌝ }
@@ -68,16 +68,17 @@ fn word_at(bytes: &[u8], i: usize) -> u32
     turned(low_first(bytes, i))
 }
 
-// Bits as a number, and the place behind them.
+// Bits as a number, the place behind them, and how many of them lie past the end: so many ones were supplied, and not read.
 pub struct Drawn {
     pub bits: u32,
     pub next: BitPlace,
+    pub past: u32,
 }
 
 // Up to 16 bits at a place. No bits are a shift by 32, which a u32 does not have, so it is made in 64 bits.
 pub fn draw(bytes: &[u8], at: BitPlace, c: u32) -> Drawn
     requires { ⌜ (at .0 ≤ ends (now bytes) + pastMost) × (length (now bytes) ≤ 16777216) × (c ≤ 16) ⌝ }
-    ensures { λ r. ⌜ (r .bits ≡ bits (now (bytes .entry)) (at .0) c) × (r .next .0 ≡ ranOn (now (bytes .entry)) (at .0) c) ⌝ }
+    ensures { λ r. ⌜ r ≡ supplied (now (bytes .entry)) (at .0) c ⌝ }
 {
     let byte = byte_of(at);
     let i = byte.0;
@@ -87,32 +88,39 @@ pub fn draw(bytes: &[u8], at: BitPlace, c: u32) -> Drawn
         return Drawn {
             bits: ((word as u64) >> (32 - c)) as u32,
             next: BitPlace(p + c as usize),
+            past: 0,
         };
     }
     let next = moved(bytes, at, c);
+    let past = beyond(bytes, at, c);
     Drawn {
         bits: one_by_one(bytes, at, c),
         next,
+        past,
     }
 }
 
 // The c bits at a place (start 9.3.2.5, raw bits): 16 at once, the rest from where those left the place.
-pub fn fetch(bytes: &[u8], at: BitPlace, c: u32) -> u32
+pub fn fetch(bytes: &[u8], at: BitPlace, c: u32) -> Drawn
     requires { ⌜ (at .0 ≤ ends (now bytes) + pastMost) × (length (now bytes) ≤ 16777216) × (c ≤ 32) ⌝ }
-    ensures { λ r. ⌜ r ≡ bits (now (bytes .entry)) (at .0) c ⌝ }
+    ensures { λ r. ⌜ r ≡ supplied (now (bytes .entry)) (at .0) c ⌝ }
 {
     if c <= 16 {
-        let few = draw(bytes, at, c);
-        return few.bits;
+        return draw(bytes, at, c);
     }
     let high = draw(bytes, at, 16);
     let between = high.next;
     let low = draw(bytes, between, c - 16);
-    (high.bits << (c - 16)) + low.bits
+    let next = low.next;
+    Drawn {
+        bits: (high.bits << (c - 16)) + low.bits,
+        next,
+        past: high.past + low.past,
+    }
 }
 
 // The place behind c bits. It runs on past the end, so that how far is known, and stops there at last.
-pub fn moved(bytes: &[u8], at: BitPlace, c: u32) -> BitPlace
+fn moved(bytes: &[u8], at: BitPlace, c: u32) -> BitPlace
     requires { ⌜ (at .0 ≤ ends (now bytes) + pastMost) × (length (now bytes) ≤ 16777216) × (c ≤ 32) ⌝ }
     ensures { λ r. ⌜ r .0 ≡ ranOn (now (bytes .entry)) (at .0) c ⌝ }
 {
@@ -123,4 +131,20 @@ pub fn moved(bytes: &[u8], at: BitPlace, c: u32) -> BitPlace
     } else {
         BitPlace(most)
     }
+}
+
+// How many of the c bits lie past the end.
+fn beyond(bytes: &[u8], at: BitPlace, c: u32) -> u32
+    requires { ⌜ (at .0 ≤ ends (now bytes) + pastMost) × (length (now bytes) ≤ 16777216) × (c ≤ 32) ⌝ }
+    ensures { λ r. ⌜ r ≡ over (now (bytes .entry)) (at .0) c ⌝ }
+{
+    let p = at.0 + c as usize;
+    let end = 8 * bytes.len();
+    if p <= end {
+        return 0;
+    }
+    if end <= at.0 {
+        return c;
+    }
+    (p - end) as u32
 }

@@ -1,13 +1,13 @@
 // The arithmetic engine's state, between calls and while a block is read.
 use crate::places::BitPlace;
 
-// Between calls: range, offset, position, an ended mark, a past-the-end mark.
+// Between calls: range, offset, position, an ended mark, and how many bits past the end were supplied since the first start, to 65,535.
 pub struct Engine {
     pub range: u32,
     pub offset: u32,
     pub at: BitPlace,
     pub ended: bool,
-    pub past: bool,
+    pub past: u32,
 }
 
 // The engine's state while a block is read: what it is in between is no state to hand out.

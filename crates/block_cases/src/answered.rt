@@ -84,7 +84,12 @@ fn state(out: &mut [u8; ROOM], at: usize, e: Engine) -> usize {
     let k = text(out, k, b", position ");
     let k = decimal(out, k, e.at.0 as u64);
     let k = flag(out, k, e.ended, b", ended");
-    flag(out, k, e.past, b", past the end")
+    if 0 < e.past {
+        let k = with_number(out, k, b", ", e.past);
+        text(out, k, b" past the end")
+    } else {
+        k
+    }
 }
 
 // n·n of an accepted size; no other block is written to.

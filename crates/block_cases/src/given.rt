@@ -67,7 +67,7 @@ pub fn plain() -> Params {
     }
 }
 
-pub fn state(range: u32, offset: u32, position: usize, ended: bool, past: bool) -> Engine {
+pub fn state(range: u32, offset: u32, position: usize, ended: bool, past: u32) -> Engine {
     Engine {
         range,
         offset,

@@ -37,14 +37,14 @@ payload, 1 byte|fe|number 1, block untouched
         t,
         p,
         with_statistics([0, 0, 0, 85]),
-        state(255, 0, 9, true, false),
+        state(255, 0, 9, true, 0),
         b"payload, 1 before 4, 3 and 6|fe|number 1, block untouched",
     );
     let t = payloads_from(
         t,
         p,
         l,
-        state(510, 0, 8, false, false),
+        state(510, 0, 8, false, 0),
         b"payload, 1 before 4|fe|number 1, block untouched",
     );
     p.log2 = 2;
@@ -58,7 +58,7 @@ payload, 1 byte|fe|number 1, block untouched
         t,
         p,
         l,
-        state(508, 509, 8, true, false),
+        state(508, 509, 8, true, 0),
         b"payload, 1 before 6|fe|number 1, block untouched",
     )
 }
@@ -129,7 +129,7 @@ fn limits_first(t: Tally) -> Tally {
         t,
         p,
         l,
-        state(508, 509, 9, true, false),
+        state(508, 509, 9, true, 0),
         b"payload, 4 before 6|fe80|number 4, block untouched",
     );
     p.aligning = true;
@@ -152,7 +152,7 @@ fn limits_first(t: Tally) -> Tally {
         t,
         p,
         with_statistics([85; 4]),
-        state(255, 0, 17, true, false),
+        state(255, 0, 17, true, 0),
         b"payload, 4 before 3 and 6|fe80|number 4, block untouched",
     )
 }
@@ -177,28 +177,28 @@ fn impossible(t: Tally) -> Tally {
         t,
         p,
         l,
-        state(255, 0, 9, false, false),
+        state(255, 0, 9, false, 0),
         b"payload, range 255|fe80|number 3, block untouched",
     );
     let t = payloads_from(
         t,
         p,
         l,
-        state(511, 0, 9, false, false),
+        state(511, 0, 9, false, 0),
         b"payload, range 511|fe80|number 3, block untouched",
     );
     let t = payloads_from(
         t,
         p,
         l,
-        state(510, 510, 9, false, false),
+        state(510, 510, 9, false, 0),
         b"payload, offset 510 at range 510|fe80|number 3, block untouched",
     );
     payloads_from(
         t,
         p,
         l,
-        state(510, 0, 17, false, false),
+        state(510, 0, 17, false, 0),
         b"payload, position 17 of 16|fe80|number 3, block untouched",
     )
 }
@@ -207,7 +207,7 @@ fn impossible(t: Tally) -> Tally {
 fn impossible_first(t: Tally) -> Tally {
     let mut p = plain();
     let l = usual();
-    let ended = state(508, 509, 9, true, false);
+    let ended = state(508, 509, 9, true, 0);
     let t = payloads_from(
         t,
         p,
@@ -226,7 +226,7 @@ fn impossible_first(t: Tally) -> Tally {
         t,
         p,
         l,
-        state(508, 509, 17, true, false),
+        state(508, 509, 17, true, 0),
         b"payload, ended beyond the end|fe80|number 3, block untouched",
     );
     p.aligning = true;
@@ -253,14 +253,14 @@ fn ends(t: Tally) -> Tally {
         t,
         p,
         l,
-        state(508, 509, 9, true, false),
+        state(508, 509, 9, true, 0),
         b"payload, ended|fe80|number 6, block untouched",
     );
     let t = payloads_from(
         t,
         p,
         l,
-        state(0, 9, 9, true, false),
+        state(0, 9, 9, true, 0),
         b"payload, ended, range 0|fe80|number 6, block untouched",
     );
     p.aligning = true;
@@ -268,7 +268,7 @@ fn ends(t: Tally) -> Tally {
         t,
         p,
         l,
-        state(510, 0, 9, true, false),
+        state(510, 0, 9, true, 0),
         b"payload, 6 before 7|0007|number 6, block untouched",
     );
     p.aligning = false;
@@ -276,7 +276,7 @@ fn ends(t: Tally) -> Tally {
         t,
         p,
         l,
-        state(510, 404, 9, true, false),
+        state(510, 404, 9, true, 0),
         b"payload, 6 before 8|ca7ffe1fe1fc|number 6, block untouched",
     )
 }

@@ -12,7 +12,7 @@ pub fn cases(t: Tally) -> Tally {
     let t = document(t);
     let t = lengths(t);
     let t = signs(t);
-    let t = marks(t);
+    let t = totals(t);
     let t = contexts(t);
     let t = sizes(t);
     alignments(t)
@@ -93,8 +93,8 @@ payload, hiding, 2 at (1,1), 32768 at (0,0)|652ffffbffcff0|number 8, block zero
     )
 }
 
-// The mark is set by a bit past the end, and kept.
-fn marks(t: Tally) -> Tally {
+// Bits past the end are counted, from the total that is handed in, to 65,535; above it is 3.
+fn totals(t: Tally) -> Tally {
     let p = plain();
     let l = usual();
     let t = payloads(
@@ -103,7 +103,7 @@ fn marks(t: Tally) -> Tally {
         l,
         b"
 payload 03 B1, past the end|03b1|\
-    extents 3 3, greatest 2, levels 15:2, range 352, offset 63, position 16, past the end, contexts 0:65 1:65 2:65 18:65 19:65 20:65 \
+    extents 3 3, greatest 2, levels 15:2, range 352, offset 63, position 16, 16 past the end, contexts 0:65 1:65 2:65 18:65 19:65 20:65 \
     36:0 37:0 38:0 39:0 40:1 41:1 42:1 43:1 44:2 85:65 108:0
 ",
     );
@@ -111,27 +111,46 @@ payload 03 B1, past the end|03b1|\
         t,
         p,
         l,
-        state(510, 509, 9, false, true),
+        state(510, 509, 9, false, 5),
         b"
-payload FE 80, marked past|fe80|\
-    extents 0 0, greatest 1, levels 0:-1, range 480, offset 464, position 13, past the end, contexts 0:0 18:0 85:0
+payload FE 80, 5 past the end before|fe80|\
+    extents 0 0, greatest 1, levels 0:-1, range 480, offset 464, position 13, 5 past the end, contexts 0:0 18:0 85:0
 ",
     );
     let t = payloads_from(
         t,
         p,
         l,
-        state(510, 509, 16, false, false),
+        state(510, 509, 16, false, 0),
         b"
 payload FE 80, from its end|fe80|\
-    extents 0 0, greatest 1, levels 0:-1, range 480, offset 479, position 16, past the end, contexts 0:0 18:0 85:0
+    extents 0 0, greatest 1, levels 0:-1, range 480, offset 479, position 16, 4 past the end, contexts 0:0 18:0 85:0
+",
+    );
+    let t = payloads_from(
+        t,
+        p,
+        l,
+        state(510, 234, 9, false, 65535),
+        b"
+payload 75 00, 65535 past the end before|7500|\
+    extents 1 1, greatest 1, levels 1:1 4:1, range 256, offset 1, position 16, 65535 past the end, contexts 0:65 1:0 18:0 36:0 38:65 85:0 86:0
+",
+    );
+    let t = payloads_from(
+        t,
+        p,
+        l,
+        state(510, 234, 9, false, 65536),
+        b"
+payload 75 00, 65536 past the end before|7500|number 3, block untouched
 ",
     );
     payloads_from(
         t,
         p,
         l,
-        state(256, 255, 0, false, false),
+        state(256, 255, 0, false, 0),
         b"
 payload FE 80, from position 0|fe80|extents 0 0, greatest 1, levels 0:-1, range 256, offset 255, position 4, contexts 0:0 18:0 85:0
 ",
@@ -209,7 +228,7 @@ fn alignments(t: Tally) -> Tally {
 payload 00 07, alignment|0007|number 7, block zero
 payload C5 00, alignment|c500|extents 0 0, greatest 4, levels 0:4, range 256, offset 0, position 16, contexts 0:0 18:0 85:65 108:65
 payload, alignment at offset 255|caf8|\
-    extents 0 0, greatest 24, levels 0:-24, range 256, offset 255, position 16, past the end, contexts 0:0 18:0 85:65 108:65
+    extents 0 0, greatest 24, levels 0:-24, range 256, offset 255, position 16, 10 past the end, contexts 0:0 18:0 85:65 108:65
 payload, alignment at offset 256|cb00|number 7, block zero
 payload, alignment at offset 300|cc60|number 7, block zero
 payload, alignment, level 32768|c6fffeffec00|number 8, block zero

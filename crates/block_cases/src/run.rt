@@ -120,7 +120,7 @@ fn payload_case(t: Tally, p: Params, l: Lent, e: Engine, case: &[u8], bytes: &[u
 fn at_front(bytes: &[u8]) -> Engine {
     match start(bytes) {
         State::Ready(e) => e,
-        State::Refused(_) => state(510, 0, 0, false, false),
+        State::Refused(_) => state(510, 0, 0, false, 0),
     }
 }
 

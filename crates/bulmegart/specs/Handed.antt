@@ -16,7 +16,7 @@ unfoldable pub flagRefusal : ℕ → ℕ
 flagRefusal b = cond (ltb 1 b) 4 0
 
 unfoldable pub stateFlags : EngineState → ℕ
-stateFlags s = flagRefusal (s .ended) orElse flagRefusal (s .«past_end»)
+stateFlags s = flagRefusal (s .ended)
 
 unfoldable pub paramsFlags : BlockParams → ℕ
 paramsFlags p =
@@ -43,16 +43,16 @@ engineOf s =
       offset = s .offset;
       at = record { 0 = s .position };
       ended = isSet (s .ended);
-      past = isSet (s .«past_end»);
+      past = s .past;
     }
 
 abbrev pub stateOf : Engine → EngineState
 stateOf e =
-    record { range = e .range; offset = e .offset; position = e .at .0; ended = bitNo (e .ended); «past_end» = bitNo (e .past) }
+    record { range = e .range; offset = e .offset; position = e .at .0; ended = bitNo (e .ended); past = e .past }
 
 -- where there is no state to hand back
 abbrev pub noState : EngineState
-noState = record { range = 0; offset = 0; position = 0; ended = 0; «past_end» = 0 }
+noState = record { range = 0; offset = 0; position = 0; ended = 0; past = 0 }
 
 abbrev pub paramsOf : BlockParams → Params
 paramsOf p =

@@ -120,7 +120,7 @@ fn no_state() -> EngineState
         offset: 0,
         position: 0,
         ended: 0,
-        past_end: 0,
+        past: 0,
     }
 }
 

@@ -17,7 +17,7 @@ pub struct EngineState {
     pub offset: u32,
     pub position: usize, // a bit place
     pub ended: u8,
-    pub past_end: u8,
+    pub past: u32, // bits past the end
 }
 
 // What the slice and the coding unit have settled before the block.
@@ -68,7 +68,7 @@ pub fn or_else(a: u32, b: u32) -> u32
 pub fn state_flags(s: EngineState) -> u32
     ensures { λ r. ⌜ r ≡ stateFlags s ⌝ }
 {
-    or_else(flag_refusal(s.ended), flag_refusal(s.past_end))
+    flag_refusal(s.ended)
 }
 
 pub fn params_flags(p: BlockParams) -> u32
@@ -113,7 +113,7 @@ pub fn engine_of(s: EngineState) -> Engine
         offset: s.offset,
         at,
         ended: is_set(s.ended),
-        past: is_set(s.past_end),
+        past: s.past,
     }
 }
 
@@ -125,7 +125,7 @@ pub fn state_of(e: Engine) -> EngineState
         offset: e.offset,
         position: e.at.0,
         ended: flag_byte(e.ended),
-        past_end: flag_byte(e.past),
+        past: e.past,
     }
 }
 

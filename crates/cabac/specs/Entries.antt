@@ -1,5 +1,5 @@
 -- What each entry point of the engine answers, for everything that it can be handed. Refusals come in document 01's order.
-use Prim.Native.Nat.{ℕ, zero, suc}
+use Prim.Native.Nat.{ℕ, zero, suc, min}
 use mathlib.Core.List.{List, []}
 use mathlib.Core.Bool.{Bool, cond}
 use lib.ListN.{length, drop, replicate}
@@ -12,6 +12,8 @@ use Rattle.cabac.specs.declared.engine.Decision.the-variants as ofDecisi
 use Rattle.cabac.specs.declared.engine.Bins.{Bins}
 use Rattle.cabac.specs.declared.engine.Bins.the-variants as ofBins
 use Rattle.bins.specs.declared.state.Taken.{Taken}
+use Rattle.bins.specs.declared.fetch.Drawn as fetch
+use Rattle.bins.specs.Bits.{ends, added}
 use Rattle.bins.specs.Interval.{settled}
 use Rattle.bins.specs.Tags.{contextCount}
 use Rattle.cabac.specs.Contexts.{initialAll}
@@ -34,6 +36,17 @@ binsSay (ofBins.Refused n) = refused n
 -- what a step took, seen from the state e that it was opened from
 abbrev pub drawnAt : List ℕ → Engine → Taken → Answer Drawn
 drawnAt l e t = accepted (record { value = t .value; next = settled l e (t .next) })
+
+-- the state e behind a fetch at its place that answered d, with range r and offset o
+abbrev pub behindFetch : List ℕ → Engine → ℕ → ℕ → fetch.Drawn → Engine
+behindFetch l e r o d =
+    record {
+      range = r;
+      offset = o;
+      at = record { 0 = min (d .next .0) (ends l) };
+      ended = e .ended;
+      past = added (e .past) (d .past);
+    }
 
 -- ---- the entry points
 -- nine bits at the place of a state are its offset: 5

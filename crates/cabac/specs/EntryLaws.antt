@@ -1,7 +1,7 @@
 -- The entry points as their code comes to its answers. Assumes nothing.
 use Prim.Native.Nat.{ℕ, zero, suc, _+_, _-_, _*_, _/_, _%_, _^_, _≤_, _<_, min, max}
-use mathlib.Core.Path.{_≡_, refl, sym, ap, subst, _∙_}
-use mathlib.Core.Bool.{Bool, true, false, _||_, cond}
+use mathlib.Core.Path.{_≡_, refl, sym, ap, ap₂, subst, _∙_}
+use mathlib.Core.Bool.{Bool, true, false, cond}
 use mathlib.Core.List.{List, [], _∷_, _++_, map}
 use native.Mathlib.Omega.{arith}
 use native.Mathlib.Numerals.{add-one}
@@ -15,16 +15,17 @@ use Rattle.bins.specs.declared.state.Engine.{Engine}
 use Rattle.bins.specs.declared.state.Interval.{Interval}
 use Rattle.bins.specs.declared.state.Taken.{Taken}
 use Rattle.bins.specs.declared.places.BitPlace.{BitPlace}
-use Rattle.bins.specs.Bits.{bits, ends, after, over}
+use Rattle.bins.specs.declared.fetch.Drawn as fetch
+use Rattle.bins.specs.Bits.{bits, ends, after, pastMost, added}
 use Rattle.bins.specs.Tags.{contextCount}
 use Rattle.cabac.specs.Contexts.{slopeRaised, preRaised, held, packed, initial, initialAll}
 use Rattle.bins.specs.Engine.{bitNo, place, fetched, renormed, started, Decided, decided, Drawn, bypassed, terminatedBy, terminated, alignedByte, byteAligned, restarted, rawBits}
-use Rattle.bins.specs.Interval.{placeOf, pastMost, ranOn, Goes, Renorms, fetchedOn, renormedOn, decidedOn, decidedValue, bypassedOn, opened, settled}
+use Rattle.bins.specs.Interval.{placeOf, ranOn, supplied, Goes, Renorms, renormedOn, decidedOn, decidedValue, bypassedOn, opened, settled}
 use Rattle.bins.specs.EngineRuns.{Runs, runs-goes}
 use Rattle.cabac.specs.Numbers.{Answer, accepted, refused, _orElse_, unless, payloadRefusal, stateRefusal, contextRefusal, countRefusal, offsetRefusal, endedRefusal}
-use Rattle.cabac.specs.NumberLaws.{or-else-assoc, or-else-first, or-else-rest, or-else-zero, unless-no, unless-yes, payload-passed, state-fits, state-runs, context-high, context-fine, count-high, count-fine, count-passed, offset-high, offset-fine, ended-is, ended-not}
+use Rattle.cabac.specs.NumberLaws.{or-else-assoc, or-else-first, or-else-rest, or-else-zero, unless-no, unless-yes, payload-passed, state-fits, state-counts, state-runs, context-high, context-fine, count-high, count-fine, count-passed, offset-high, offset-fine, ended-is, ended-not}
 use Rattle.bins.specs.Settled.{settled-opened, settled-fetched, settled-decided, settled-bypassed}
-use Rattle.cabac.specs.Entries.{drawnAt, startedAt, start, decision, bypassBits, terminate, byteAlign, restOf, restart, raw, valuesRefusal, contextsAfter, statisticsAfter}
+use Rattle.cabac.specs.Entries.{drawnAt, behindFetch, startedAt, start, decision, bypassBits, terminate, byteAlign, restOf, restart, raw, valuesRefusal, contextsAfter, statisticsAfter}
 
 -- ---- initialisation
 pub slope-small : (v q : ℕ) → v ≤ 255 → q ≤ 51 → 5 * (v / 16) * q ≤ 3825
@@ -70,30 +71,20 @@ inited-all values cs q i h g n =
     cc
 
 -- ---- cut to the end
-pub settle-past : (l : List ℕ) (e : Engine) (x : Interval) → ends l < placeOf x
-    → _≡_ {A = Engine} (record { range = x .range; offset = x .offset; at = record { 0 = 8 * length l }; ended = e .ended; past = true }) (settled l e x)
+pub settle-code : (l : List ℕ) (e : Engine) (x : Interval) (at : BitPlace) (n : ℕ) → at .0 ≡ min (placeOf x) (ends l) → n ≡ added (e .past) (placeOf x - ends l)
+    → _≡_ {A = Engine} (record { range = x .range; offset = x .offset; at = at; ended = e .ended; past = n }) (settled l e x)
 unfolding settled
-settle-past l e x h =
-    let a : min (placeOf x) (ends l) ≡ 8 * length l = omega arith in
-    let p : (e .past || ltb (ends l) (placeOf x)) ≡ true = rw (lt-ltb (ends l) (placeOf x) h) (or-true (e .past)) in
-    cc
-  where
-    or-true : (b : Bool) → (b || true) ≡ true
-    or-true true = refl
-    or-true false = refl
+settle-code l e x at n p q =
+    let w : at ≡ record { 0 = min (placeOf x) (ends l) } = ap (λ (k : ℕ). record { 0 = k }) p in cc
 
-pub settle-inside : (l : List ℕ) (e : Engine) (x : Interval) → placeOf x ≤ ends l
-    → _≡_ {A = Engine} (record { range = x .range; offset = x .offset; at = x .at; ended = e .ended; past = e .past }) (settled l e x)
-unfolding settled
-settle-inside l e x h =
-    let a : min (placeOf x) (ends l) ≡ placeOf x = omega arith in
-    let p : (e .past || ltb (ends l) (placeOf x)) ≡ e .past = rw (le-ltb (ends l) (placeOf x) h) (or-right (e .past)) in
-    let w : x .at ≡ record { 0 = min (placeOf x) (ends l) } = ap (λ (k : ℕ). record { 0 = k }) (sym a) in
-    cc
-  where
-    or-right : (b : Bool) → (b || false) ≡ b
-    or-right true = refl
-    or-right false = refl
+pub behind-code : (l : List ℕ) (e : Engine) (r o : ℕ) (d : fetch.Drawn) (at : BitPlace) (n : ℕ) → at .0 ≡ min (d .next .0) (ends l) → n ≡ added (e .past) (d .past)
+    → _≡_ {A = Engine} (record { range = r; offset = o; at = at; ended = e .ended; past = n }) (behindFetch l e r o d)
+behind-code l e r o d at n p q =
+    let w : at ≡ record { 0 = min (d .next .0) (ends l) } = ap (λ (k : ℕ). record { 0 = k }) p in cc
+
+-- the place that ran on, cut, is where document 01's fetch leaves it
+cut-ran : (l : List ℕ) (p c : ℕ) → min (ranOn l p c) (ends l) ≡ after l p c
+cut-ran l p c = omega arith
 
 -- ---- the numbers, as the code finds them one after the other
 module _ (l : List ℕ) (e : Engine) where
@@ -106,8 +97,13 @@ module _ (l : List ℕ) (e : Engine) where
   pub passed-runs : 0 ≡ (payloadRefusal l orElse stateRefusal l e) → e .ended ≡ false → Runs l e
   passed-runs q h = let z = or-else-zero (payloadRefusal l) (stateRefusal l e) q in state-runs l e (z .0) (z .1) h
 
-  pub passed-fits : 0 ≡ (payloadRefusal l orElse stateRefusal l e) → (length l ≤ 16777216) × (place e ≤ ends l)
-  passed-fits q = let z = or-else-zero (payloadRefusal l) (stateRefusal l e) q in (payload-passed l (z .0), state-fits l e (z .1))
+  pub passed-fits : 0 ≡ (payloadRefusal l orElse stateRefusal l e) → (length l ≤ 16777216) × (place e ≤ ends l) × (e .past ≤ pastMost)
+  passed-fits q =
+      let z = or-else-zero (payloadRefusal l) (stateRefusal l e) q in (payload-passed l (z .0), state-fits l e (z .1), state-counts l e (z .1))
+
+  -- a state that passed is what opening and settling gives
+  passed-opened : 0 ≡ (payloadRefusal l orElse stateRefusal l e) → settled l e (opened e) ≡ e
+  passed-opened q = let p = passed-fits q in settled-opened l e (p .1) (p .2)
 
   -- ---- byte alignment
   pub byte-align-no : (n : ℕ) → n ≡ (payloadRefusal l orElse stateRefusal l e) → (n ≡ 0 → ⊥) → refused n ≡ byteAlign l e
@@ -134,16 +130,19 @@ module _ (l : List ℕ) (e : Engine) where
   unfolding startedAt fetched
   started-no o q h = unless-no 5 _ _ (offset-high _ (omega arith)) (λ z. omega arith)
 
-  pub started-yes : (o : ℕ) (p : BitPlace) → o ≡ bits l (place e) 9 → p .0 ≡ ranOn l (place e) 9 → o < 510 → place e ≤ ends l
-      → (f : Engine) → f ≡ settled l e (record { range = 510; offset = o; at = p }) → accepted f ≡ startedAt l e
+  nine-behind : behindFetch l e 510 (bits l (place e) 9) (supplied l (place e) 9) ≡ fetched l e 510 0 9
+  unfolding fetched
+  nine-behind =
+      let o : bits l (place e) 9 ≡ 0 * 2 ^ 9 + bits l (place e) 9 = omega arith in
+      let a = cut-ran l (place e) 9 in
+      cc
+
+  pub started-yes : (d : fetch.Drawn) (f : Engine) → d ≡ supplied l (place e) 9 → d .bits < 510 → f ≡ behindFetch l e 510 (d .bits) d → accepted f ≡ startedAt l e
   unfolding startedAt
-  started-yes o p q w h k f r =
-      let x : Interval = record { range = 510; offset = o; at = p } in
-      let g : x ≡ fetchedOn l (opened e) 510 0 9 =
-      unfold fetchedOn in (let a : o ≡ 0 * 2 ^ 9 + bits l (place e) 9 = omega arith in let b : p ≡ record { 0 = ranOn l (place e) 9 } = ap (λ (k : ℕ). record { 0 = k }) w in cc) in
-      let s : f ≡ fetched l e 510 0 9 =
-      r ∙ ap (settled l e) g ∙ sym (settled-fetched l e (opened e) 510 0 9) ∙ ap (λ (z : Engine). fetched l z 510 0 9) (settled-opened l e k) in
-      let t : fetched l e 510 0 9 .offset < 510 = unfold fetched in omega arith in
+  started-yes d f q h r =
+      let o : d .bits ≡ bits l (place e) 9 = ap (λ (k : fetch.Drawn). k .bits) q in
+      let s : f ≡ fetched l e 510 0 9 = r ∙ ap (λ (k : fetch.Drawn). behindFetch l e 510 (k .bits) k) q ∙ nine-behind in
+      let t : fetched l e 510 0 9 .offset < 510 = omega (arith, ap (λ (z : Engine). z .offset) nine-behind) in
       unless-yes (offsetRefusal (fetched l e 510 0 9)) f (fetched l e 510 0 9) (offset-fine (fetched l e 510 0 9) t) s
 
   -- ---- restart
@@ -185,10 +184,9 @@ module _ (l : List ℕ) (e : Engine) where
   unfolding decision
   decision-yes ctx t c f q h k p r s =
       let d = decidedOn l (opened e) ctx in
-      let z = or-else-zero (payloadRefusal l) (stateRefusal l e) q in
       let n : 0 ≡ (payloadRefusal l orElse stateRefusal l e orElse contextRefusal ctx orElse endedRefusal e) =
       first-passed 0 (contextRefusal ctx orElse endedRefusal e) q (or-else-rest 0 (contextRefusal ctx) (endedRefusal e) (context-fine ctx h) (ended-not e k)) in
-      let o = settled-opened l e (state-fits l e (z .1)) in
+      let o = passed-opened q in
       let m = settled-decided l e (opened e) ctx in
       let b : eqb (t .value) 1 ≡ d .bit = ap (λ (u : Taken). eqb (u .value) 1) p ∙ is-bit (d .bit) in
       let g : f ≡ settled l e (d .next) = s ∙ ap (λ (u : Taken). settled l e (u .next)) p in
@@ -240,7 +238,7 @@ module _ (l : List ℕ) (e : Engine) where
   unfolding bypassBits
   bypass-yes c t a q k p r =
       let z = counted c q in
-      let o = settled-opened l e (passed-fits (z .0) .1) in
+      let o = passed-opened (z .0) in
       let v : bypassed l e c ≡ record { value = bypassedOn l (opened e) c .value; next = settled l e (bypassedOn l (opened e) c .next) } =
       ap (λ (u : Engine). bypassed l u c) (sym o) ∙ settled-bypassed l e (opened e) c in
       let w : _≡_ {A = Drawn} (record { value = t .value; next = settled l e (t .next) }) (bypassed l e c) = cc in
@@ -271,7 +269,7 @@ module _ (l : List ℕ) (e : Engine) where
   unfolding terminate terminated terminatedBy
   terminate-zero x f q k h p s =
       let c = leadingZeros 9 (e .range - 2) in
-      let o = settled-opened l e (passed-fits q .1) in
+      let o = passed-opened q in
       let v : renormed l e (e .range - 2) (e .offset) ≡ settled l e (renormedOn l (opened e) (e .range - 2) (e .offset)) =
       ap (λ (u : Engine). fetched l u ((e .range - 2) * 2 ^ c) (e .offset) c) (sym o) ∙ settled-fetched l e (opened e) ((e .range - 2) * 2 ^ c) (e .offset) c in
       let w : f ≡ renormed l e (e .range - 2) (e .offset) = s ∙ ap (settled l e) p ∙ sym v in
@@ -283,27 +281,14 @@ module _ (l : List ℕ) (e : Engine) where
   unfolding raw
   raw-no c n q h = unless-no n _ (rawBits l e c) q h
 
-  pub raw-yes : (c v : ℕ) (p : BitPlace) (f : Engine) → 0 ≡ (payloadRefusal l orElse countRefusal c orElse stateRefusal l e)
-      → v ≡ bits l (place e) c → p .0 ≡ ranOn l (place e) c → f ≡ settled l e (record { range = e .range; offset = e .offset; at = p })
-      → accepted (record { value = v; next = f }) ≡ raw l e c
+  pub raw-yes : (c : ℕ) (d : fetch.Drawn) (f : Engine) → 0 ≡ (payloadRefusal l orElse countRefusal c orElse stateRefusal l e)
+      → d ≡ supplied l (place e) c → f ≡ behindFetch l e (e .range) (e .offset) d → accepted (record { value = d .bits; next = f }) ≡ raw l e c
   unfolding raw rawBits
-  raw-yes c v p f q a b s =
-      let fits = passed-fits (counted c q .0) .1 in
-      let g : settled l e (record { range = e .range; offset = e .offset; at = p })
-      ≡ record { range = e .range; offset = e .offset; at = record { 0 = after l (place e) c }; ended = e .ended; past = e .past || over l (place e) c } =
-      unfold settled in
-      (let m : min (p .0) (ends l) ≡ after l (place e) c = omega arith in
-      let o : ltb (ends l) (p .0) ≡ over l (place e) c = rw b (over-ran l (place e) c fits) in
-      cc) in
-      let w : _≡_ {A = Drawn} (record { value = v; next = f }) (rawBits l e c) = cc in
-      unless-yes _ _ (rawBits l e c) q w
-    where
-      over-ran : (l : List ℕ) (p c : ℕ) → p ≤ ends l → ltb (ends l) (ranOn l p c) ≡ over l p c
-      over-ran l p c h = go (over l p c) refl
-        where
-          go : (b : Bool) → over l p c ≡ b → ltb (ends l) (ranOn l p c) ≡ b
-          go true q = lt-ltb (ends l) (ranOn l p c) (omega (arith, ltb-true (ends l) (p + c) q))
-          go false q = le-ltb (ends l) (ranOn l p c) (omega (arith, ltb-false (ends l) (p + c) q))
+  raw-yes c d f q p s =
+      let v : d .bits ≡ bits l (place e) c = ap (λ (k : fetch.Drawn). k .bits) p in
+      let a = cut-ran l (place e) c in
+      let g : f ≡ rawBits l e c .next = s ∙ ap (behindFetch l e (e .range) (e .offset)) p ∙ (cc) in
+      unless-yes _ _ (rawBits l e c) q (ap₂ (λ (k : ℕ) (z : Engine). record { value = k; next = z }) v g)
 
 -- ---- start
 pub start-no : (l : List ℕ) (n : ℕ) → n ≡ payloadRefusal l → (n ≡ 0 → ⊥) → refused n ≡ start l
@@ -311,7 +296,7 @@ unfolding start
 start-no l n q h = unless-no n _ (started l) (or-else-first n (payloadRefusal l) (offsetRefusal (started l)) q h) h
 
 pub start-yes : (l : List ℕ) (o : Answer Engine) → 0 ≡ payloadRefusal l
-    → o ≡ startedAt l (record { range = 510; offset = 0; at = record { 0 = 0 }; ended = false; past = false }) → o ≡ start l
+    → o ≡ startedAt l (record { range = 510; offset = 0; at = record { 0 = 0 }; ended = false; past = 0 }) → o ≡ start l
 unfolding start started startedAt
 start-yes l o q r =
     r ∙ ap (λ n. unless n (started l)) (or-else-rest (offsetRefusal (started l)) (payloadRefusal l) (offsetRefusal (started l)) q refl)

@@ -8,7 +8,7 @@ use lib.ListN.{length}
 use lib.Dec.{ltb, leb}
 use borrow.Author.Tests.{ltb-true, ltb-false, leb-true, leb-false, lt-ltb, le-ltb, lt-leb, le-leb}
 use Rattle.bins.specs.declared.state.Engine.{Engine}
-use Rattle.bins.specs.Bits.{ends}
+use Rattle.bins.specs.Bits.{ends, pastMost}
 use Rattle.bins.specs.Engine.{place}
 use Rattle.bins.specs.EngineRuns.{Runs}
 use Rattle.cabac.specs.Numbers.{Answer, accepted, refused, _orElse_, unless, payloadRefusal, possible, stateRefusal, contextRefusal, countRefusal, offsetRefusal, endedRefusal}
@@ -68,44 +68,69 @@ module _ (l : List ℕ) where
       go false p true r z = absurd (omega arith)
       go false p false r z = ltb-false 16777216 (length l) r
 
+  pub payload-two : 0 ≡ payloadRefusal l → 2 ≤ length l
+  unfolding payloadRefusal
+  payload-two q = go (ltb (length l) 2) refl q
+    where
+      go : (a : Bool) → ltb (length l) 2 ≡ a → _≡_ {A = ℕ} 0 (cond a 1 (cond (ltb 16777216 (length l)) 2 0)) → 2 ≤ length l
+      go true p z = absurd (omega arith)
+      go false p z = ltb-false (length l) 2 p
+
 -- ---- 3
 module _ (l : List ℕ) (e : Engine) where
   pub state-beyond : ends l < place e → 3 ≡ stateRefusal l e
   unfolding stateRefusal possible
   state-beyond h = rw (lt-leb (place e) (ends l) h)
 
-  pub state-ended : place e ≤ ends l → e .ended ≡ true → 0 ≡ stateRefusal l e
+  pub state-uncounted : place e ≤ ends l → pastMost < e .past → 3 ≡ stateRefusal l e
   unfolding stateRefusal possible
-  state-ended h q = rw (le-leb (place e) (ends l) h, q)
+  state-uncounted h k = rw (le-leb (place e) (ends l) h, lt-leb (e .past) pastMost k)
 
-  pub state-low : place e ≤ ends l → e .ended ≡ false → e .range < 256 → 3 ≡ stateRefusal l e
-  unfolding stateRefusal possible
-  state-low h q a = rw (le-leb (place e) (ends l) h, q, lt-leb 256 (e .range) a)
+  module _ (h : place e ≤ ends l) (k : e .past ≤ pastMost) where
+    pub state-ended : e .ended ≡ true → 0 ≡ stateRefusal l e
+    unfolding stateRefusal possible
+    state-ended q = rw (le-leb (place e) (ends l) h, le-leb (e .past) pastMost k, q)
 
-  pub state-high : place e ≤ ends l → e .ended ≡ false → 256 ≤ e .range → 510 < e .range → 3 ≡ stateRefusal l e
-  unfolding stateRefusal possible
-  state-high h q a b = rw (le-leb (place e) (ends l) h, q, le-leb 256 (e .range) a, lt-leb (e .range) 510 b)
+    pub state-low : e .ended ≡ false → e .range < 256 → 3 ≡ stateRefusal l e
+    unfolding stateRefusal possible
+    state-low q a = rw (le-leb (place e) (ends l) h, le-leb (e .past) pastMost k, q, lt-leb 256 (e .range) a)
 
-  pub state-over : place e ≤ ends l → e .ended ≡ false → 256 ≤ e .range → e .range ≤ 510 → e .range ≤ e .offset → 3 ≡ stateRefusal l e
-  unfolding stateRefusal possible
-  state-over h q a b c = rw (le-leb (place e) (ends l) h, q, le-leb 256 (e .range) a, le-leb (e .range) 510 b, le-ltb (e .offset) (e .range) c)
+    pub state-high : e .ended ≡ false → 256 ≤ e .range → 510 < e .range → 3 ≡ stateRefusal l e
+    unfolding stateRefusal possible
+    state-high q a b = rw (le-leb (place e) (ends l) h, le-leb (e .past) pastMost k, q, le-leb 256 (e .range) a, lt-leb (e .range) 510 b)
 
-  pub state-fine : place e ≤ ends l → e .ended ≡ false → 256 ≤ e .range → e .range ≤ 510 → e .offset < e .range → 0 ≡ stateRefusal l e
-  unfolding stateRefusal possible
-  state-fine h q a b c = rw (le-leb (place e) (ends l) h, q, le-leb 256 (e .range) a, le-leb (e .range) 510 b, lt-ltb (e .offset) (e .range) c)
+    pub state-over : e .ended ≡ false → 256 ≤ e .range → e .range ≤ 510 → e .range ≤ e .offset → 3 ≡ stateRefusal l e
+    unfolding stateRefusal possible
+    state-over q a b c =
+        rw (le-leb (place e) (ends l) h, le-leb (e .past) pastMost k, q, le-leb 256 (e .range) a, le-leb (e .range) 510 b, le-ltb (e .offset) (e .range) c)
+
+    pub state-fine : e .ended ≡ false → 256 ≤ e .range → e .range ≤ 510 → e .offset < e .range → 0 ≡ stateRefusal l e
+    unfolding stateRefusal possible
+    state-fine q a b c =
+        rw (le-leb (place e) (ends l) h, le-leb (e .past) pastMost k, q, le-leb 256 (e .range) a, le-leb (e .range) 510 b, lt-ltb (e .offset) (e .range) c)
 
   pub state-fits : 0 ≡ stateRefusal l e → place e ≤ ends l
   unfolding stateRefusal possible
   state-fits q = go (leb (place e) (ends l)) refl q
     where
       go : (a : Bool) → leb (place e) (ends l) ≡ a
-          → _≡_ {A = ℕ} 0 (cond (a && (e .ended || (leb 256 (e .range) && (leb (e .range) 510 && ltb (e .offset) (e .range))))) 0 3) → place e ≤ ends l
+          → _≡_ {A = ℕ} 0 (cond (a && (leb (e .past) pastMost && (e .ended || (leb 256 (e .range) && (leb (e .range) 510 && ltb (e .offset) (e .range)))))) 0 3)
+          → place e ≤ ends l
       go true p z = leb-true (place e) (ends l) p
+      go false p z = absurd (omega arith)
+
+  pub state-counts : 0 ≡ stateRefusal l e → e .past ≤ pastMost
+  unfolding stateRefusal possible
+  state-counts q = go (leb (e .past) pastMost) refl (rw (le-leb (place e) (ends l) (state-fits q)) at q)
+    where
+      go : (a : Bool) → leb (e .past) pastMost ≡ a
+          → _≡_ {A = ℕ} 0 (cond (a && (e .ended || (leb 256 (e .range) && (leb (e .range) 510 && ltb (e .offset) (e .range))))) 0 3) → e .past ≤ pastMost
+      go true p z = leb-true (e .past) pastMost p
       go false p z = absurd (omega arith)
 
   pub state-runs : 0 ≡ payloadRefusal l → 0 ≡ stateRefusal l e → e .ended ≡ false → Runs l e
   unfolding stateRefusal possible
-  state-runs short q n = go (leb 256 (e .range)) refl (leb (e .range) 510) refl (ltb (e .offset) (e .range)) refl (rw (le-leb (place e) (ends l) (state-fits q), n) at q)
+  state-runs short q n = go (leb 256 (e .range)) refl (leb (e .range) 510) refl (ltb (e .offset) (e .range)) refl (rw (le-leb (place e) (ends l) (state-fits q), le-leb (e .past) pastMost (state-counts q), n) at q)
     where
       go : (a : Bool) → leb 256 (e .range) ≡ a → (b : Bool) → leb (e .range) 510 ≡ b → (c : Bool) → ltb (e .offset) (e .range) ≡ c
           → _≡_ {A = ℕ} 0 (cond (a && (b && c)) 0 3) → Runs l e
@@ -113,6 +138,7 @@ module _ (l : List ℕ) (e : Engine) where
           record {
             short = payload-passed l short;
             fits = state-fits q;
+            counts = state-counts q;
             least = leb-true 256 (e .range) p;
             most = leb-true (e .range) 510 r;
             below = ltb-true (e .offset) (e .range) s;

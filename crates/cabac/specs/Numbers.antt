@@ -5,7 +5,7 @@ use mathlib.Core.Bool.{Bool, _&&_, _||_, cond}
 use lib.ListN.{length}
 use lib.Dec.{ltb, leb}
 use Rattle.bins.specs.declared.state.Engine.{Engine}
-use Rattle.bins.specs.Bits.{ends}
+use Rattle.bins.specs.Bits.{ends, pastMost}
 use Rattle.bins.specs.Engine.{place}
 
 -- what an entry point answers: 0 with what it gives, or the number of the refusal
@@ -27,10 +27,11 @@ unless (suc n) a = refused (suc n)
 unfoldable pub payloadRefusal : List ℕ → ℕ
 payloadRefusal l = cond (ltb (length l) 2) 1 (cond (ltb 16777216 (length l)) 2 0)
 
--- 3: a position beyond 8 times the payload length; or, unless ended, not 256 ≤ range ≤ 510 with offset < range
+-- 3: a position beyond 8 times the payload length; a total past the end above 65,535; or, unless ended, not 256 ≤ range ≤ 510 with offset < range
 unfoldable pub possible : List ℕ → Engine → Bool
 possible l e =
-    leb (place e) (ends l) && (e .ended || (leb 256 (e .range) && (leb (e .range) 510 && ltb (e .offset) (e .range))))
+    leb (place e) (ends l)
+    && (leb (e .past) pastMost && (e .ended || (leb 256 (e .range) && (leb (e .range) 510 && ltb (e .offset) (e .range)))))
 
 unfoldable pub stateRefusal : List ℕ → Engine → ℕ
 stateRefusal l e = cond (possible l e) 0 3

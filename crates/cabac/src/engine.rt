@@ -1,7 +1,7 @@
 // The arithmetic engine (H.265 9.3.4.3): its state, and the entry points over a payload and a state.
 // Each takes anything: what document 01 does not accept is answered by its number, and the caller's state stands.
+use bins::fetch::Drawn;
 use bins::fetch::fetch;
-use bins::fetch::moved;
 use bins::payload;
 use bins::places::BitPlace;
 use bins::places::aligned;
@@ -11,13 +11,13 @@ use bins::state::Interval;
 use bins::state::Taken;
 use tables::decision_table;
 ghost use mathlib.Core.Path.{_≡_};
-ghost use Prim.Native.Nat.{_+_, _≤_, _<_};
+ghost use Prim.Native.Nat.{_+_, _-_, _≤_, _<_, min};
 ghost use lib.ListN.{length};
-ghost use Rattle.bins.specs.Bits.{ends};
+ghost use Rattle.bins.specs.Bits.{ends, added};
 ghost use Rattle.bins.specs.Engine.{place, alignedByte};
-ghost use Rattle.bins.specs.Interval.{opened, settled, pastMost};
+ghost use Rattle.bins.specs.Interval.{opened, settled};
 ghost use Rattle.cabac.specs.Numbers.{_orElse_, payloadRefusal, stateRefusal, contextRefusal, countRefusal, endedRefusal};
-ghost use Rattle.cabac.specs.Entries.{drawnAt, stateSays, decisionSays, binsSay};
+ghost use Rattle.cabac.specs.Entries.{drawnAt, behindFetch, stateSays, decisionSays, binsSay};
 ghost use Rattle.cabac.specs.Entries as entries;
 
 // A state, or the number of the refusal.
@@ -56,6 +56,9 @@ pub fn state_refusal(bytes: &[u8], e: Engine) -> u32
 {
     let at = e.at.0;
     if 8 * bytes.len() < at {
+        return 3;
+    }
+    if 65535 < e.past {
         return 3;
     }
     if e.ended {
@@ -110,28 +113,69 @@ pub fn open(e: Engine) -> Interval
     }
 }
 
-// What the caller sees of it: a place past the end is cut to the end, and sets the mark.
+// A total past the end with so many bits more: it stops at 65,535.
+fn added_to(total: u32, more: usize) -> u32
+    ensures { λ r. ⌜ r ≡ added total more ⌝ }
+{
+    if 65535 < total {
+        return 65535;
+    }
+    if 65535 < more {
+        return 65535;
+    }
+    let sum = total + more as u32;
+    if sum < 65535 { sum } else { 65535 }
+}
+
+// A place as the caller sees it: one past the end is cut to the end.
+fn cut(bytes: &[u8], at: BitPlace) -> BitPlace
+    requires { ⌜ length (now bytes) ≤ 16777216 ⌝ }
+    ensures { λ r. ⌜ r .0 ≡ min (at .0) (ends (now (bytes .entry))) ⌝ }
+{
+    let end = 8 * bytes.len();
+    if end < at.0 { BitPlace(end) } else { at }
+}
+
+// How far past the end a place ran on.
+fn ran_past(bytes: &[u8], at: BitPlace) -> usize
+    requires { ⌜ length (now bytes) ≤ 16777216 ⌝ }
+    ensures { λ r. ⌜ r ≡ at .0 - ends (now (bytes .entry)) ⌝ }
+{
+    let end = 8 * bytes.len();
+    if end < at.0 { at.0 - end } else { 0 }
+}
+
+// What the caller sees of it: the place cut to the end, and what is cut off added to the total.
 pub fn settle(bytes: &[u8], e: Engine, x: Interval) -> Engine
     requires { ⌜ length (now bytes) ≤ 16777216 ⌝ }
     ensures { λ r. ⌜ r ≡ settled (now (bytes .entry)) e x ⌝ }
 {
-    let at = x.at;
-    let end = 8 * bytes.len();
-    if end < at.0 {
-        return Engine {
-            range: x.range,
-            offset: x.offset,
-            at: BitPlace(end),
-            ended: e.ended,
-            past: true,
-        };
-    }
+    let ran = x.at;
+    let past = added_to(e.past, ran_past(bytes, ran));
+    let at = cut(bytes, ran);
     Engine {
         range: x.range,
         offset: x.offset,
         at,
         ended: e.ended,
-        past: e.past,
+        past,
+    }
+}
+
+// The state behind a fetch at its place: what the fetch supplied past the end is added to the total.
+fn behind(bytes: &[u8], e: Engine, range: u32, offset: u32, d: Drawn) -> Engine
+    requires { ⌜ length (now bytes) ≤ 16777216 ⌝ }
+    ensures { λ r. ⌜ r ≡ behindFetch (now (bytes .entry)) e range offset d ⌝ }
+{
+    let past = added_to(e.past, d.past as usize);
+    let ran = d.next;
+    let at = cut(bytes, ran);
+    Engine {
+        range,
+        offset,
+        at,
+        ended: e.ended,
+        past,
     }
 }
 
@@ -157,7 +201,7 @@ pub fn start(bytes: &[u8]) -> State
         offset: 0,
         at: BitPlace(0),
         ended: false,
-        past: false,
+        past: 0,
     };
     started_at(bytes, e)
 }
@@ -168,18 +212,12 @@ fn started_at(bytes: &[u8], e: Engine) -> State
     ensures { λ r. ⌜ stateSays r ≡ entries.startedAt (now (bytes .entry)) e ⌝ }
 {
     let at = e.at;
-    let offset = fetch(bytes, at, 9);
-    let next = moved(bytes, at, 9);
+    let nine = fetch(bytes, at, 9);
+    let offset = nine.bits;
     if 510 <= offset {
         return State::Refused(5);
     }
-    let x = Interval {
-        range: 510,
-        offset,
-        at: next,
-    };
-    let state = settle(bytes, e, x);
-    State::Ready(state)
+    State::Ready(behind(bytes, e, 510, offset, nine))
 }
 
 // One decision on a packed context.
@@ -300,7 +338,7 @@ pub fn rest(bytes: &[u8], e: Engine) -> &[u8]
     &bytes[first..]
 }
 
-// Restart: align, and start there. The past-the-end mark is kept, the ended mark cleared.
+// Restart: align, and start there. The total past the end is kept and added to, the ended mark cleared.
 pub fn restart(bytes: &[u8], e: Engine) -> State
     ensures { λ r. ⌜ stateSays r ≡ entries.restart (now (bytes .entry)) e ⌝ }
 {
@@ -330,13 +368,7 @@ pub fn read_bits(bytes: &[u8], e: Engine, count: u32) -> Bins
         return Bins::Refused(n);
     }
     let at = e.at;
-    let value = fetch(bytes, at, count);
-    let next = moved(bytes, at, count);
-    let x = Interval {
-        range: e.range,
-        offset: e.offset,
-        at: next,
-    };
-    let state = settle(bytes, e, x);
-    Bins::Read(value, state)
+    let drawn = fetch(bytes, at, count);
+    let value = drawn.bits;
+    Bins::Read(value, behind(bytes, e, e.range, e.offset, drawn))
 }

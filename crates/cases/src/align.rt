@@ -56,8 +56,8 @@ fn aligned(t: Tally) -> Tally {
     let t = align(
         t,
         b"byte alignment, position 24",
-        past(510, 0, 24),
-        State::Ready(past(510, 0, 24)),
+        past(510, 0, 24, 9),
+        State::Ready(past(510, 0, 24, 9)),
     );
     align(
         t,
@@ -160,18 +160,23 @@ fn restarts(t: Tally) -> Tally {
         got,
         State::Ready(live(510, 257, 17)),
     );
-    let got = restart(&TWICE, past(300, 7, 9));
+    let got = restart(&TWICE, past(300, 7, 9, 7));
     state(
         t,
-        b"restart, marked past is kept",
+        b"restart, 7 past the end are kept",
         got,
-        State::Ready(past(510, 509, 25)),
+        State::Ready(past(510, 509, 25, 7)),
     )
 }
 
 fn restarts_past(t: Tally) -> Tally {
     let got = restart(&[0x00, 0x12], live(510, 0, 8));
-    let t = state(t, b"restart, 12 left", got, State::Ready(past(510, 37, 16)));
+    let t = state(
+        t,
+        b"restart, 12 left",
+        got,
+        State::Ready(past(510, 37, 16, 1)),
+    );
     let got = restart(&[0x00, 0xff], live(510, 0, 8));
     let t = state(t, b"restart, FF left", got, State::Refused(5));
     let got = restart(&[0x00, 0xff, 0x00], ended(508, 509, 8));

@@ -38,7 +38,7 @@ fn counts(t: Tally) -> Tally {
         b"bypass, 80 00, count 10",
         e,
         10,
-        Bins::Read(514, past(510, 11, 16)),
+        Bins::Read(514, past(510, 11, 16, 3)),
     );
     let t = counted(t, b"bypass, 80 00, count 0", e, 0, Bins::Read(0, e));
     let t = counted(
@@ -53,7 +53,7 @@ fn counts(t: Tally) -> Tally {
         b"bypass, 80 00, count 32",
         e,
         32,
-        Bins::Read(2155970945, past(510, 257, 16)),
+        Bins::Read(2155970945, past(510, 257, 16, 25)),
     )
 }
 
@@ -64,16 +64,16 @@ fn edges(t: Tally) -> Tally {
         b"bypass, at the end, count 4",
         e,
         4,
-        Bins::Read(8, past(510, 31, 16)),
+        Bins::Read(8, past(510, 31, 16, 4)),
     );
     let t = counted(t, b"bypass, at the end, count 0", e, 0, Bins::Read(0, e));
-    let marked = past(510, 256, 9);
+    let marked = past(510, 256, 9, 5);
     let t = counted(
         t,
-        b"bypass, marked past, count 3",
+        b"bypass, 5 past the end before, count 3",
         marked,
         3,
-        Bins::Read(4, past(510, 8, 12)),
+        Bins::Read(4, past(510, 8, 12, 5)),
     );
     let e = live(256, 255, 9);
     counted(

@@ -105,7 +105,7 @@ fn most_probable(t: Tally) -> Tally {
         t,
         b"decision, at the end, context 0",
         got,
-        Decision::Bin(true, 64, past(256, 255, 16)),
+        Decision::Bin(true, 64, past(256, 255, 16, 1)),
     )
 }
 

@@ -9,6 +9,7 @@ mod start; // start.rt: start
 mod states; // states.rt: states to hand in, and payloads
 mod tally; // tally.rt: what a case prints
 mod terminate; // terminate.rt: terminate
+mod totals; // totals.rt: how far past the end
 
 use report::tally::none;
 use report::tally::total;
@@ -22,6 +23,7 @@ fn main() {
     let t = terminate::cases(t);
     let t = align::cases(t);
     let t = raw::cases(t);
+    let t = totals::cases(t);
     let t = contexts::cases(t);
     let t = block_cases::cases(t);
     let t = write_cases::cases(t);

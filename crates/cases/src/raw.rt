@@ -42,14 +42,14 @@ fn counts(t: Tally) -> Tally {
         b"raw, A5 3C, count 17",
         e,
         17,
-        Bins::Read(84601, past(510, 5, 16)),
+        Bins::Read(84601, past(510, 5, 16, 1)),
     );
     raw(
         t,
         b"raw, A5 3C, count 32",
         e,
         32,
-        Bins::Read(2772238335, past(510, 5, 16)),
+        Bins::Read(2772238335, past(510, 5, 16, 16)),
     )
 }
 
@@ -78,10 +78,10 @@ fn phases(t: Tally) -> Tally {
     );
     raw(
         t,
-        b"raw, marked past is kept",
-        past(510, 5, 0),
+        b"raw, 65535 past the end are kept",
+        past(510, 5, 0, 65535),
         4,
-        Bins::Read(10, past(510, 5, 4)),
+        Bins::Read(10, past(510, 5, 4, 65535)),
     )
 }
 

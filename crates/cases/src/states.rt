@@ -11,14 +11,14 @@ pub const ZEROS: [u8; 2] = [0x00, 0x00];
 // Its first nine bits are 256.
 pub const HALF: [u8; 2] = [0x80, 0x00];
 
-// A state that is neither ended nor past the end.
+// A state that has not ended, with nothing past the end.
 pub fn live(range: u32, offset: u32, position: usize) -> Engine {
     Engine {
         range,
         offset,
         at: BitPlace(position),
         ended: false,
-        past: false,
+        past: 0,
     }
 }
 
@@ -28,16 +28,28 @@ pub fn ended(range: u32, offset: u32, position: usize) -> Engine {
         offset,
         at: BitPlace(position),
         ended: true,
-        past: false,
+        past: 0,
     }
 }
 
-pub fn past(range: u32, offset: u32, position: usize) -> Engine {
+// A state with a total past the end.
+pub fn past(range: u32, offset: u32, position: usize, total: u32) -> Engine {
     Engine {
         range,
         offset,
         at: BitPlace(position),
         ended: false,
-        past: true,
+        past: total,
+    }
+}
+
+// The same, ended.
+pub fn ended_past(range: u32, offset: u32, position: usize, total: u32) -> Engine {
+    Engine {
+        range,
+        offset,
+        at: BitPlace(position),
+        ended: true,
+        past: total,
     }
 }

@@ -34,8 +34,10 @@ fn show_engine(e: Engine) {
     if e.ended {
         write::text(b", ended");
     }
-    if e.past {
-        write::text(b", past the end");
+    if 0 < e.past {
+        write::text(b", ");
+        write::decimal32(e.past);
+        write::text(b" past the end");
     }
 }
 
@@ -180,4 +182,10 @@ pub fn lent(t: Tally, name: &[u8], number: u32, want: u32, right: bool) -> Tally
         write::text(b", other contexts or statistics");
     }
     judged(t, right & (number == want))
+}
+
+pub fn number(t: Tally, name: &[u8], got: u32, want: u32) -> Tally {
+    named(name);
+    write::decimal32(got);
+    judged(t, got == want)
 }

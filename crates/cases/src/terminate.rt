@@ -61,7 +61,7 @@ fn renormalised(t: Tally) -> Tally {
         t,
         b"terminate, range 257, at the end",
         got,
-        Bins::Read(0, past(510, 15, 16)),
+        Bins::Read(0, past(510, 15, 16, 1)),
     )
 }
 

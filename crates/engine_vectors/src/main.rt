@@ -46,7 +46,7 @@ fn fresh(length: usize) -> Slice {
             offset: 0,
             at: BitPlace(0),
             ended: false,
-            past: false,
+            past: 0,
         },
     }
 }

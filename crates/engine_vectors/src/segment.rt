@@ -3,7 +3,7 @@
 //     segment BYTE REST state BINS state changes
 //
 // Byte alignment's byte and how many bytes are left there; the state behind start or restart; how many bins agree; the state
-// behind them; the contexts that changed, as number:byte. A state is range, offset, position, ended, past.
+// behind them; the contexts that changed, as number:byte. A state is range, offset, position, ended, and the bits past the end.
 use crate::Slice;
 use crate::steps;
 use crate::steps::Outcome;
@@ -26,7 +26,7 @@ fn show_state(e: Engine) {
     write::spaced(e.offset);
     write::spaced_count(e.at.0);
     write::spaced_flag(e.ended);
-    write::spaced_flag(e.past);
+    write::spaced(e.past);
 }
 
 fn show_refusal(n: u32) {

@@ -88,7 +88,7 @@ fn state(line: &[u8]) -> Engine {
         offset,
         at,
         ended: false,
-        past: false,
+        past: 0,
     }
 }
 

@@ -39,7 +39,7 @@ fn state(e: Engine) {
     write::spaced(e.offset);
     write::spaced_count(e.at.0);
     write::spaced_flag(e.ended);
-    write::spaced_flag(e.past);
+    write::spaced(e.past);
 }
 
 pub fn payload_answer(r: Read) {

@@ -31,7 +31,7 @@ pub data Case : Type 0 where
   anyInitCase : ℕ → ℕ → Case  -- value, context at every q
   initCase : ℕ → ℕ → ℕ → Case  -- value, q, context
   startCase : List ℕ → ℕ → Case  -- payload, number given
-  bypassCase : List ℕ → ℕ → ℕ → ℕ → ℕ → Bool → Case  -- payload, count, answer, offset, position, past the end
+  bypassCase : List ℕ → ℕ → ℕ → ℕ → ℕ → ℕ → Case  -- payload, count, answer, offset, position, bits past the end
   decisionCase : List ℕ → ℕ → Bool → ℕ → ℕ → ℕ → Case  -- payload, context, bin, range, offset, context behind it
   listCase : List ℤ → List ℕ → ℕ → ℕ → Case  -- levels, bin list, column and row extent
   payloadCase : List ℕ → ℕ → List ℤ → ℕ → ℕ → ℕ → List ℕ → Case  -- payload, initial values, levels, position, range, offset, the contexts that are now 0
@@ -47,8 +47,8 @@ table =
     ∷ initCase 255 51 126
     ∷ startCase (0xff ∷ 0x00 ∷ []) 5
     ∷ startCase (0xff ∷ 0x80 ∷ []) 5
-    ∷ bypassCase (0x80 ∷ 0x00 ∷ []) 3 4 8 12 false
-    ∷ bypassCase (0x80 ∷ 0x00 ∷ []) 10 514 11 16 true
+    ∷ bypassCase (0x80 ∷ 0x00 ∷ []) 3 4 8 12 0
+    ∷ bypassCase (0x80 ∷ 0x00 ∷ []) 10 514 11 16 3
     ∷ decisionCase (0xfe ∷ 0x80 ∷ []) 0 true 480 478 64
     ∷ listCase (pos 1 ∷ replicate 15 (pos 0)) (0 ∷ 36 ∷ 170 ∷ 240 ∷ []) 0 0
     ∷ listCase (pos 0 ∷ pos 1 ∷ pos 0 ∷ pos 0 ∷ pos 1 ∷ replicate 11 (pos 0)) (1 ∷ 2 ∷ 36 ∷ 77 ∷ 72 ∷ 170 ∷ 172 ∷ 240 ∷ 240 ∷ []) 1 1
@@ -114,9 +114,9 @@ atEvery : ℕ → ℕ → ℕ → Bool
 atEvery v ctx zero = true
 atEvery v ctx (suc q) = eqb (initial v q) ctx && atEvery v ctx q
 
-bypassIs : ℕ → ℕ → ℕ → Bool → Drawn → Bool
+bypassIs : ℕ → ℕ → ℕ → ℕ → Drawn → Bool
 bypassIs value offset at past d =
-    eqb (d .value) value && (eqb (d .next .offset) offset && (eqb (place (d .next)) at && Bool·beq (d .next .past) past))
+    eqb (d .value) value && (eqb (d .next .offset) offset && (eqb (place (d .next)) at && eqb (d .next .past) past))
 
 decisionIs : Bool → ℕ → ℕ → ℕ → Decided → Bool
 decisionIs bit range offset ctx d =

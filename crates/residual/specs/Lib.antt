@@ -13,3 +13,5 @@ pub mod Limits
 pub mod LimitLaws
 pub mod ReachLaws
 pub mod Cases
+pub mod TotalLaws
+pub mod TotalCase

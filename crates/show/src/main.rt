@@ -86,7 +86,7 @@ fn ended() -> Engine {
         offset: 0,
         at,
         ended: true,
-        past: false,
+        past: 0,
     }
 }
 

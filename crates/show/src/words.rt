@@ -89,13 +89,45 @@ pub fn found(f: Found) {
     named(b"greatest magnitude  ", f.greatest);
 }
 
-// Bits of the payload, of so many bytes.
+// Whole bytes that hold so many bits.
+fn bytes_of(bits: u32) -> u32 {
+    if bits % 8 == 0 {
+        return bits / 8;
+    }
+    bits / 8 + 1
+}
+
+fn missing(bytes: u32) {
+    if bytes == 0 {
+        write::line(b"nothing is missing");
+        return;
+    }
+    write::text(b"about ");
+    write::decimal32(bytes);
+    if bytes == 1 {
+        write::line(b" byte is missing");
+    } else {
+        write::line(b" bytes are missing");
+    }
+}
+
+// One block draws less than the 65,535 bits at which a total stops.
+fn past_the_end(bits: u32) {
+    write::decimal32(bits);
+    if bits == 1 {
+        write::text(b" bit past the end: ");
+    } else {
+        write::text(b" bits past the end: ");
+    }
+    missing(bytes_of(bits));
+}
+
+// Bits of the payload, of so many bytes; and those past its end.
 pub fn drawn(e: Engine, bytes: usize) {
     write::text(b"bits drawn          ");
     write::count(e.at.0);
     write::text(b", of a payload of ");
     write::count(bytes);
     write::line(b" bytes");
-    write::text(b"past the end        ");
-    yes_or_no(e.past);
+    past_the_end(e.past);
 }

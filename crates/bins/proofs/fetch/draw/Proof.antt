@@ -1,7 +1,7 @@
 -- `draw` meets its contract. Assumes nothing.
 use native.Mathlib.Omega.{arith}
 use Rattle.bins.specs.BitLaws.{bits-below}
-use Rattle.bins.specs.FetchLaws.{drawn}
+use Rattle.bins.specs.FetchLaws.{drawn, drawn-word, drawn-parts}
 use borrow.Author.Needs.{needs}
 use Rattle.bins.proofs.fetch.draw.Statement.{statement}
 use Rattle.bins.proofs.fetch.draw.Tie as tie
@@ -21,35 +21,38 @@ cast-word c = search needs
 shl-word : tie.Need-shl-word
 shl-word c = search needs
 
-cast-t15 : tie.Need-cast-t15
-cast-t15 c = search needs
-
-sub-t12 : tie.Need-sub-t12
-sub-t12 c = search needs
-
 cast-t16 : tie.Need-cast-t16
 cast-t16 c = search needs
 
-shr-t17 : tie.Need-shr-t17
-shr-t17 c = search needs
+sub-t13 : tie.Need-sub-t13
+sub-t13 c = search needs
 
-cast-t14 : tie.Need-cast-t14
-cast-t14 c = let a = c .before .before .before .before .args in let h = c .before .before .before .before .pre in omega (arith, drawn (a .bytes .now) (a .at .0) _ _ (a .c) (c .before .before .byte-of .ensures) (c .word-at .ensures) (h .2), bits-below (a .bytes .now) (a .at .0) (a .c) 16 (h .2))
+cast-t17 : tie.Need-cast-t17
+cast-t17 c = search needs
 
-add-t18 : tie.Need-add-t18
-add-t18 c = search needs
+shr-t18 : tie.Need-shr-t18
+shr-t18 c = search needs
+
+cast-t15 : tie.Need-cast-t15
+cast-t15 c = let a = c .before .before .before .before .args in let h = c .before .before .before .before .pre in omega (arith, drawn (a .bytes .now) (a .at .0) _ _ (a .c) (c .before .before .byte-of .ensures) (c .word-at .ensures) (h .2), bits-below (a .bytes .now) (a .at .0) (a .c) 16 (h .2))
+
+add-t19 : tie.Need-add-t19
+add-t19 c = search needs
 
 returns : tie.Need-returns
-returns c = let a = c .before .before .before .before .args in let h = c .before .before .before .before .pre in (drawn (a .bytes .now) (a .at .0) _ _ (a .c) (c .before .before .byte-of .ensures) (c .word-at .ensures) (h .2), omega arith)
+returns c = let a = c .before .before .before .before .args in let h = c .before .before .before .before .pre in drawn-word (a .bytes .now) (a .at .0) _ _ (a .c) (c .before .before .byte-of .ensures) (c .word-at .ensures) (h .2) (omega arith)
 
 moved-requires : tie.Need-moved-requires
 moved-requires c κs = search needs
+
+beyond-requires : tie.Need-beyond-requires
+beyond-requires c κs = search needs
 
 one-by-one-requires : tie.Need-one-by-one-requires
 one-by-one-requires c κs = search needs
 
 returns-2 : tie.Need-returns-2
-returns-2 c = search needs
+returns-2 c = let a = c .before .before .before .before .before .before .args in drawn-parts (a .bytes .now) (a .at .0) (a .c) _ _ _ (c .one-by-one .ensures) (c .before .before .moved .ensures) (c .before .beyond .ensures)
 
 pub draw-spec : {M : Type 1} → statement M
 draw-spec =
@@ -60,13 +63,14 @@ draw-spec =
     word-at-requires
     cast-word
     shl-word
-    cast-t15
-    sub-t12
     cast-t16
-    shr-t17
-    cast-t14
-    add-t18
+    sub-t13
+    cast-t17
+    shr-t18
+    cast-t15
+    add-t19
     returns
     moved-requires
+    beyond-requires
     one-by-one-requires
     returns-2)

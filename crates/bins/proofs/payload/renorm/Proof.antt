@@ -1,5 +1,7 @@
 -- `renorm` meets its contract. Assumes nothing.
 use native.Mathlib.Omega.{arith}
+use mathlib.Core.Path.{ap}
+use Rattle.bins.specs.declared.fetch.Drawn.{Drawn}
 use Rattle.bins.specs.Interval.{placeOf}
 use Rattle.bins.specs.BitLaws.{bits-below}
 use Rattle.bins.specs.EngineLaws.{shifted}
@@ -20,10 +22,10 @@ shl-t10 : tie.Need-shl-t10
 shl-t10 c = let a = c .before .before .before .before .args in let h = c .before .before .before .before .pre in omega (arith, shift-few (a .bytes .now) (a .x) (a .range) (a .offset) h)
 
 add-t11 : tie.Need-add-t11
-add-t11 c = let a = c .before .before .before .before .before .args in let h = c .before .before .before .before .before .pre in let few = shift-few (a .bytes .now) (a .x) (a .range) (a .offset) h in omega (arith, offset-small (a .bytes .now) (a .x) (a .range) (a .offset) h, c .before .before .draw .ensures .0, bits-below (a .bytes .now) (placeOf (a .x)) (shift (a .bytes .now) (a .x) (a .range) (a .offset) h) 8 few)
+add-t11 c = let a = c .before .before .before .before .before .args in let h = c .before .before .before .before .before .pre in let few = shift-few (a .bytes .now) (a .x) (a .range) (a .offset) h in omega (arith, offset-small (a .bytes .now) (a .x) (a .range) (a .offset) h, ap (λ (k : Drawn). k .bits) (c .before .before .draw .ensures), bits-below (a .bytes .now) (placeOf (a .x)) (shift (a .bytes .now) (a .x) (a .range) (a .offset) h) 8 few)
 
 returns : tie.Need-returns
-returns c = let a = c .before .before .before .before .before .args in let d = c .before .before .draw in renormed-code (a .bytes .now) (a .x) (a .range) (a .offset) (c .before .before .before .before .before .pre) _ _ (d .ensures .0) (d .ensures .1)
+returns c = let a = c .before .before .before .before .before .args in let d = c .before .before .draw in renormed-code (a .bytes .now) (a .x) (a .range) (a .offset) (c .before .before .before .before .before .pre) _ _ (ap (λ (k : Drawn). k .bits) (d .ensures)) (ap (λ (k : Drawn). k .next .0) (d .ensures))
 
 pub renorm-spec : {M : Type 1} → statement M
 renorm-spec =

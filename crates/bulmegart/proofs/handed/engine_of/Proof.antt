@@ -7,11 +7,8 @@ use Rattle.bulmegart.proofs.handed.engine_of.Tie as tie
 is-set-requires : tie.Need-is-set-requires
 is-set-requires c κs = search needs
 
-is-set-requires-2 : tie.Need-is-set-requires-2
-is-set-requires-2 c κs = search needs
-
 returns : tie.Need-returns
-returns c = rw (c .before .is-set .ensures, c .is-set2 .ensures) refl
+returns c = rw (c .is-set .ensures) refl
 
 pub engine-of-spec : {M : Type 1} → statement M
-engine-of-spec = tie.close (tie.spec is-set-requires is-set-requires-2 returns)
+engine-of-spec = tie.close (tie.spec is-set-requires returns)

@@ -7,11 +7,8 @@ use Rattle.bulmegart.proofs.handed.state_of.Tie as tie
 flag-byte-requires : tie.Need-flag-byte-requires
 flag-byte-requires c κs = search needs
 
-flag-byte-requires-2 : tie.Need-flag-byte-requires-2
-flag-byte-requires-2 c κs = search needs
-
 returns : tie.Need-returns
-returns c = rw (c .before .flag-byte .ensures, c .flag-byte2 .ensures) refl
+returns c = rw (c .flag-byte .ensures) refl
 
 pub state-of-spec : {M : Type 1} → statement M
-state-of-spec = tie.close (tie.spec flag-byte-requires flag-byte-requires-2 returns)
+state-of-spec = tie.close (tie.spec flag-byte-requires returns)

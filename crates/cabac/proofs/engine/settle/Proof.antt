@@ -1,18 +1,22 @@
 -- `settle` meets its contract. Assumes nothing.
-use native.Mathlib.Omega.{arith}
-use Rattle.cabac.specs.EntryLaws.{settle-past, settle-inside}
+use Rattle.cabac.specs.EntryLaws.{settle-code}
 use borrow.Author.Needs.{needs}
+use mathlib.Core.Path.{ap, _∙_}
+use Rattle.bins.specs.Bits.{added}
 use Rattle.cabac.proofs.engine.settle.Statement.{statement}
 use Rattle.cabac.proofs.engine.settle.Tie as tie
 
-mul-end : tie.Need-mul-end
-mul-end c = search needs
+ran-past-requires : tie.Need-ran-past-requires
+ran-past-requires c κs = search needs
+
+added-to-requires : tie.Need-added-to-requires
+added-to-requires c κs = search needs
+
+cut-requires : tie.Need-cut-requires
+cut-requires c κs = search needs
 
 returns : tie.Need-returns
-returns c = let a = c .before .before .before .args in settle-past (a .bytes .now) (a .e) (a .x) (c .if1 .taken)
-
-returns-2 : tie.Need-returns-2
-returns-2 c = let a = c .before .before .before .args in settle-inside (a .bytes .now) (a .e) (a .x) (c .if1 .left)
+returns c = let a = c .before .before .before .before .before .args in settle-code (a .bytes .now) (a .e) (a .x) _ _ (c .cut .ensures) (c .before .added-to .ensures ∙ ap (added (a .e .past)) (c .before .before .ran-past .ensures))
 
 pub settle-spec : {M : Type 1} → statement M
-settle-spec = tie.close (tie.spec mul-end returns returns-2)
+settle-spec = tie.close (tie.spec ran-past-requires added-to-requires cut-requires returns)
