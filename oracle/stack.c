@@ -9,7 +9,7 @@
 
 enum { SIZE = 1 << 20, PAINT = 0xa5 };
 static unsigned char *stack, *caller;
-static uint8_t payload[4096], contexts[120], statistics[4], list[4096];
+static uint8_t payload[4096], contexts[BULMEGART_CONTEXTS], statistics[BULMEGART_STATISTICS], list[8192];
 static int32_t levels[1024];
 static volatile uint32_t number;
 static int which;
@@ -25,7 +25,7 @@ static void call(void) {
     case 3: number = bulmegart_terminate(payload, length, s).number; break;
     case 4: number = bulmegart_restart(payload, length, s).number; break;
     case 5: number = bulmegart_raw_bits(payload, length, s, 32).number; break;
-    case 6: number = bulmegart_init_contexts(contexts, statistics, payload, 120, 26); break;
+    case 6: number = bulmegart_init_contexts(contexts, statistics, payload, BULMEGART_CONTEXTS, 26); break;
     case 7: number = bulmegart_read_block(payload, length, s, contexts, statistics, p, levels, 1024).number; break;
     case 8: number = bulmegart_read_bins(list, length, statistics, p, levels, 1024).number; break;
     case 9:
@@ -33,6 +33,9 @@ static void call(void) {
         levels[1023] = levels[700] = levels[33] = 9;
         number = bulmegart_write_bins(p, statistics, levels, 1024, 0, 0, list, sizeof list).number;
         break;
+    case 10: number = bulmegart_read_scale(payload, length, s, contexts, 1).number; break;
+    case 11: number = bulmegart_read_scale_bins(list, 2, 1).number; break;
+    case 12: number = bulmegart_write_scale(1, -8, list, sizeof list).number; break;
     default: break;
     }
 }
@@ -70,10 +73,12 @@ static size_t depth(int w) {
 }
 
 int main(void) {
-    const char *names[] = {"start", "decision", "bypass", "terminate", "restart", "raw bits", "init contexts", "read block", "read bins", "write bins"};
+    const char *names[] = {"start", "decision", "bypass", "terminate", "restart", "raw bits", "init contexts", "read block", "read bins", "write bins",
+                           "read scale", "read scale bins", "write scale"};
+    const int count = sizeof names / sizeof *names;
     stack = aligned_alloc(4096, SIZE);
     for (size_t i = 0; i < sizeof payload; i++) payload[i] = (uint8_t)(i * 37 + (i >> 3) * 11);
-    for (int w = 0; w < 10; w++) printf("%-14s %zu bytes\n", names[w], depth(w));
-    printf("%-14s %zu bytes (the caller alone)\n", "none", depth(10));
+    for (int w = 0; w < count; w++) printf("%-15s %zu bytes\n", names[w], depth(w));
+    printf("%-15s %zu bytes (the caller alone)\n", "none", depth(count));
     return 0;
 }

@@ -2,18 +2,21 @@
 """Writes what the program replay reads, and what it must write, from the vectors of real streams.
 
     block_vectors.py VECTORS OUT all             every record
-    block_vectors.py VECTORS OUT sample          a sample of them
-    block_vectors.py VECTORS OUT sample MORE     the sample and then MORE, as crates/replay keeps it
+    block_vectors.py VECTORS OUT sample          a sample of the blocks, and every scale
+    block_vectors.py VECTORS OUT sample MORE     the same with MORE between them, as crates/replay keeps it
 
-VECTORS has hevc.txt, rext.txt and forced.txt (VECTORS/FORMAT.md); MORE is what `oracle sample` writes (oracle/README.md): three lines a
-record, the line to read and the two to write; or a folder that has stdin and stdout, of which the records behind the sample are taken again.
-OUT gets the files stdin and stdout.
+VECTORS has hevc.txt, rext.txt, forced.txt and, for scales, cross.txt (VECTORS/FORMAT.md) and 02/cross.txt (VECTORS/FORMAT-02.md); MORE is what
+`oracle sample` writes (oracle/README.md): three lines a record, the line to read and the two to write; or a folder that has stdin and stdout, of which
+the records behind the sample are taken again. OUT gets the files stdin and stdout.
 
-stdin, a block a line, fields parted by one space, bytes hexadecimal:
+stdin, a block or a call of the scale's a line, fields parted by one space, bytes hexadecimal:
 
     B parameters(14) range offset position payload contexts statistics list
+    P component range offset position ended past payload contexts
+    L component list
+    W component minus magnitude room
 
-stdout, a line by the payload reader and one by the bin reader, and of an accepted block two by the bin writer:
+stdout, a line by the payload reader and one by the bin reader, and of what was accepted two by the bin writer:
 
     payload 0 skip rdpcm column row greatest range offset position ended past levels contexts statistics
     payload NUMBER levels contexts statistics
@@ -22,14 +25,24 @@ stdout, a line by the payload reader and one by the bin reader, and of an accept
     written 0 length list statistics
     short 12 untouched statistics
 
-The last is the answer to a room of one byte less than the list has; its statistics are those handed in.
+    scale 0 SCALE range offset position ended past contexts
+    scale NUMBER contexts
+    bins 0 SCALE
+    bins NUMBER
+    written 0 length list
+    written NUMBER untouched
+    short 12 untouched
 
-Contexts are 120, the first of the vector's 130. The row is the greatest of the levels beside it, whatever row was recorded (request (iii)).
+The last of each is the answer to a room of one byte less than the list has; its statistics are those handed in.
+
+The row is the greatest of the levels beside it, whatever row was recorded (request (iii)). A block's list has a byte for each entry in the vectors; here, and in
+a scale's, an entry is two, the low one first, and bypass and alignment are 260, 261 and 262 (request (vii)).
 """
 import os
 import sys
 
 FILES = ["hevc.txt", "rext.txt", "forced.txt"]
+CONTEXTS = 130
 # of each choice of parameters the shortest records, so many of each file
 SAMPLE = 2
 
@@ -39,6 +52,14 @@ def blocks(folder, name):
         for line in lines:
             fields = line.rstrip("\n").split(" ")
             if fields[0] == "B":
+                yield fields
+
+
+def scales(folder):
+    with open(os.path.join(folder, "cross.txt"), encoding="ascii") as lines:
+        for line in lines:
+            fields = line.rstrip("\n").split(" ")
+            if fields[0] == "X":
                 yield fields
 
 
@@ -65,11 +86,17 @@ def with_row(line, text):
     return " ".join(words)
 
 
+def entries(bins):
+    """A list of one byte an entry as one of two, hexadecimal."""
+    numbers = [b + 20 if b >= 240 else b for b in bytes.fromhex(bins)]
+    return b"".join(n.to_bytes(2, "little") for n in numbers).hex()
+
+
 def pair(fields):
     """The line to read and the lines to write."""
     parameters, state = fields[2:16], fields[16:19]
     payload, contexts, statistics, bins = fields[19:23]
-    contexts = contexts[:240]
+    bins = entries(bins)
     answer, found, levels = fields[23], fields[24:29], fields[29]
     after, changes, statistics_after = fields[30:33], fields[33], fields[34]
     line = " ".join(["B", *parameters, *state, payload, contexts, statistics, bins])
@@ -83,6 +110,57 @@ def pair(fields):
         f"written 0 {len(bins) // 2} {bins} {statistics_after}",
         f"short 12 untouched {statistics}",
     ]
+
+
+def from_list(component, bins, scale):
+    """A scale read from its list, and written as it."""
+    return f"L {component} {bins}", [f"bins 0 {scale}", f"written 0 {len(bins) // 2} {bins}", "short 12 untouched"]
+
+
+def scale_pairs(fields):
+    """The calls of a recorded scale: from its payload, and from its list."""
+    component, state, payload, contexts, bins, scale = fields[2], fields[3:6], *fields[6:10]
+    after, changes = fields[10:13], fields[13]
+    return [
+        (
+            f"P {component} {' '.join(state)} 0 0 {payload} {contexts}",
+            [f"scale 0 {scale} {' '.join(after)} 0 0 {changed(contexts, changes)}"],
+        ),
+        from_list(component, bins, scale),
+    ]
+
+
+def started(payload):
+    """The state of a fresh start."""
+    offset = int.from_bytes(bytes.fromhex(payload)[:2], "big") >> 7
+    return f"510,{offset},9,0,0"
+
+
+def worked(line):
+    """A call of document 02's vectors."""
+    kind, _, keys = line.partition(" ")
+    handed, answered = (dict(key.split("=") for key in side.split(" ")) for side in keys.split(" => "))
+    component, number = handed["component"], answered["answer"]
+    if kind == "crosswrite":
+        minus, magnitude = int(handed["scale"].startswith("-")), handed["scale"].lstrip("-")
+        said = f"0 {answered['length']} {answered['list']}" if number == "0" else f"{number} untouched"
+        return f"W {component} {minus} {magnitude} {handed.get('room', '64')}", [f"written {said}"]
+    if kind == "crosslist":
+        if number == "0":
+            return from_list(component, handed["list"], answered["scale"])
+        return f"L {component} {handed['list']}", [f"bins {number}"]
+    contexts = handed.get("ctx", "40" * CONTEXTS)
+    state = handed.get("state") or started(handed["payload"])
+    call = f"P {component} {state.replace(',', ' ')} {handed['payload']} {contexts}"
+    if number != "0":
+        return call, [f"scale {number} {contexts}"]
+    return call, [f"scale 0 {answered['scale']} {answered['state'].replace(',', ' ')} {changed(contexts, answered['changes'])}"]
+
+
+def document_02(folder):
+    """The calls that document 02's vectors have beside the recorded ones."""
+    with open(os.path.join(folder, "02", "cross.txt"), encoding="ascii") as lines:
+        return [worked(line.rstrip("\n")) for line in lines if line.startswith("cross")]
 
 
 def written(line, texts):
@@ -110,12 +188,14 @@ def lines_of(name):
 
 
 def more(name, known):
-    """The records of MORE, three lines each; of a folder those behind the first `known`."""
+    """The records of MORE, three lines each; of a folder the blocks behind the first `known`."""
     if not os.path.isdir(name):
         return lines_of(name)
     texts = iter(lines_of(os.path.join(name, "stdout")))
     records = []
     for line in lines_of(os.path.join(name, "stdin")):
+        if not line.startswith("B "):
+            break
         payload, bins = next(texts), next(texts)
         if bins.startswith("bins 0 "):
             next(texts), next(texts)
@@ -134,6 +214,9 @@ def main():
     for name in sys.argv[4:]:
         lines = more(name, len(pairs))
         pairs += [(lines[k], written(lines[k], lines[k + 1 : k + 3])) for k in range(0, len(lines), 3)]
+    recorded = [call for fields in scales(folder) for call in scale_pairs(fields)]
+    known = {line for line, _ in recorded}
+    pairs += recorded + [call for call in document_02(folder) if call[0] not in known]
     with open(os.path.join(out, "stdin"), "w", encoding="ascii") as f:
         f.writelines(line + "\n" for line, _ in pairs)
     with open(os.path.join(out, "stdout"), "w", encoding="ascii") as f:

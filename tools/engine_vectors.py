@@ -8,7 +8,7 @@ VECTORS has init.txt and engine.txt (VECTORS/FORMAT.md); OUT gets the files stdi
 
 stdin, a record a line, fields parted by one space, bytes hexadecimal:
 
-    I q values            120 initial values, the first of the vector's 130
+    I q values            130 initial values
     S payload             the payload of the segments that follow
     G contexts bins       a segment: 199 packed contexts; a bin is 4 digits as in engine.txt
 
@@ -38,7 +38,7 @@ def init_records(folder):
     for fields in records(folder, "init.txt"):
         if fields[0] == "I":
             _, _, q, values, contexts = fields
-            yield f"I {q} {values[:240]}", f"init 0 {contexts[:240]} 00000000"
+            yield f"I {q} {values}", f"init 0 {contexts} 00000000"
 
 
 def segment(fields, payload):

@@ -2,16 +2,23 @@
 // BULMEGART_LIB_DIR names another folder that has libbulmegart.a.
 use std::env;
 use std::path::PathBuf;
+use std::process::exit;
 
 fn main() {
     let here = PathBuf::from(env::var("CARGO_MANIFEST_DIR").unwrap());
-    let folder = match env::var("BULMEGART_LIB_DIR") {
-        Ok(named) => PathBuf::from(named),
-        Err(_) if env::var("CARGO_CFG_TARGET_ARCH").unwrap() == "x86_64" => here.join("../../target/staticlib"),
-        Err(_) => here.join("../../target/native"),
+    let (folder, help) = match (env::var("BULMEGART_LIB_DIR"), env::var("CARGO_CFG_TARGET_ARCH").unwrap().as_str()) {
+        (Ok(named), _) => (PathBuf::from(named), "BULMEGART_LIB_DIR names that folder; it must be one that has the archive."),
+        (Err(_), "x86_64") => (here.join("../../target/staticlib"), "`rt staticlib bulmegart` in the repository's root proves and writes it, or BULMEGART_LIB_DIR names a folder that has it."),
+        (Err(_), _) => (here.join("../../target/native"), "`tools/native_archive bulmegart target/native` in the repository's root makes it, or BULMEGART_LIB_DIR names a folder that has it."),
     };
+    let archive = folder.join("libbulmegart.a");
     println!("cargo:rerun-if-env-changed=BULMEGART_LIB_DIR");
-    println!("cargo:rerun-if-changed={}", folder.join("libbulmegart.a").display());
+    println!("cargo:rerun-if-changed={}", archive.display());
+    if !archive.is_file() {
+        eprintln!("There is no {}, the library that this crate calls.", archive.display());
+        eprintln!("{help}");
+        exit(1);
+    }
     println!("cargo:rustc-link-search=native={}", folder.display());
     println!("cargo:rustc-link-lib=static=bulmegart");
 }

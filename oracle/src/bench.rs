@@ -9,7 +9,7 @@ use crate::made::{Chooser, Encoder, Style, block};
 use crate::model::Scans;
 use crate::peer;
 use crate::random::Random;
-use bulmegart::{Params, read_block, start};
+use bulmegart::{CONTEXTS, Params, read_block, start};
 use std::hint::black_box;
 
 #[repr(C)]
@@ -36,13 +36,14 @@ struct Stream {
     levels: u64,
 }
 
-const CONTEXTS: u8 = 154;
+/// The initial value of every context.
+const VALUE: u8 = 154;
 
 fn stream(seed: u64, blocks: usize, sizes: &[u32], style: Style) -> Stream {
     let scans = Scans::new();
     let mut r = Random::new(seed);
     let mut sizes_of = Random::new(seed + 1);
-    let mut c = Chooser { encoder: Encoder::new(), contexts: [bulmegart::init(CONTEXTS, 26); 120], random: &mut r, style, ones: 0 };
+    let mut c = Chooser { encoder: Encoder::new(), contexts: [bulmegart::init(VALUE, 26); CONTEXTS], random: &mut r, style, ones: 0 };
     let mut statistics = [0; 4];
     let mut levels = vec![0; 1024];
     let mut params = Vec::new();
@@ -60,7 +61,7 @@ fn stream(seed: u64, blocks: usize, sizes: &[u32], style: Style) -> Stream {
 
 #[inline(never)]
 fn ours(s: &Stream, levels: &mut [i32]) -> u64 {
-    let (mut contexts, mut statistics) = ([bulmegart::init(CONTEXTS, 26); 120], [0; 4]);
+    let (mut contexts, mut statistics) = ([bulmegart::init(VALUE, 26); CONTEXTS], [0; 4]);
     let mut state = start(&s.payload).unwrap();
     let mut sum = 0;
     for p in &s.params {
@@ -73,7 +74,7 @@ fn ours(s: &Stream, levels: &mut [i32]) -> u64 {
 
 #[inline(never)]
 fn theirs(s: &Stream, set: &mut ContextSet, levels: &mut [i32]) -> u64 {
-    peer::lend(set, &[bulmegart::init(CONTEXTS, 26); 120], &[0; 4]);
+    peer::lend(set, &[bulmegart::init(VALUE, 26); CONTEXTS], &[0; 4]);
     let mut dec = CabacDecoder::new_borrowed(&s.payload).unwrap();
     let mut sum = 0;
     for p in &s.params {
@@ -93,7 +94,7 @@ fn ours_real(blocks: &[Real], levels: &mut [i32]) -> u64 {
     sum
 }
 
-/// A set made before the clock runs is cloned for each block, as 124 bytes are copied for ours.
+/// A set made before the clock runs is cloned for each block, as contexts and statistics are copied for ours.
 #[inline(never)]
 fn theirs_real(blocks: &[Real], sets: &[ContextSet], levels: &mut [i32]) -> u64 {
     let mut sum = 0;

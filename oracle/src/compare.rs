@@ -3,13 +3,13 @@ use crate::cabac::contexts::ContextSet;
 use crate::cabac::engine;
 use crate::model::{Engine, List, Scans, Walk, greatest_row, walk};
 use crate::peer;
-use bulmegart::{Found, Params, Rdpcm, State, read_bins, read_block, write_bins};
+use bulmegart::{BYPASS_ENTRY, CONTEXTS, Found, Params, Rdpcm, Refusal, State, read_bins, read_block, write_bins};
 use std::collections::BTreeMap;
 
 pub struct Input<'a> {
     pub payload: &'a [u8],
     pub state: State,
-    pub contexts: [u8; 120],
+    pub contexts: [u8; CONTEXTS],
     pub statistics: [u8; 4],
     pub params: Params,
     pub room: usize,
@@ -98,7 +98,7 @@ impl Bench {
     }
 
     /// Our answer to an input, with contexts and statistics behind it; the levels are in `self.ours`.
-    fn ours(&mut self, i: &Input) -> (Result<(Found, State), u32>, [u8; 120], [u8; 4]) {
+    fn ours(&mut self, i: &Input) -> (Result<(Found, State), Refusal>, [u8; CONTEXTS], [u8; 4]) {
         let (mut contexts, mut statistics) = (i.contexts, i.statistics);
         self.ours[..i.room + 8].fill(HELD);
         let r = read_block(i.payload, i.state, &mut contexts, &mut statistics, i.params, &mut self.ours[..i.room]);
@@ -127,7 +127,7 @@ impl Bench {
         let at_once = refused_at_once(i);
         if at_once != 0 {
             let kept = contexts == i.contexts && statistics == i.statistics && self.ours[..i.room + 8].iter().all(|&v| v == HELD);
-            if r != Err(at_once) || !kept {
+            if r.map_err(Refusal::number) != Err(at_once) || !kept {
                 differ("refused at once", i, format!("ours {r:?}, document 01 {at_once}, kept {kept}"));
             }
             *self.answers.entry((at_once, "checks")).or_default() += 1;
@@ -161,7 +161,7 @@ impl Bench {
             }
             Some(refusal) => {
                 let kept = contexts == i.contexts && statistics == i.statistics && self.ours[..n2].iter().all(|&v| v == 0);
-                if r != Err(refusal.number) || !kept {
+                if r.map_err(Refusal::number) != Err(refusal.number) || !kept {
                     differ("refused", i, format!("ours {r:?}, {w:?}, kept {kept}"));
                 }
                 *self.answers.entry((refusal.number, refusal.rule)).or_default() += 1;
@@ -172,15 +172,20 @@ impl Bench {
         if list {
             let mut bins = std::mem::take(&mut self.list);
             self.list(i, &bins);
-            // cut short, one too many, another entry
+            // cut short, in an entry too; a byte or an entry too many; a bit turned, an entry's bytes exchanged
             let turn = self.blocks as usize;
             if !bins.is_empty() {
                 let cut = turn % bins.len();
                 self.list(i, &bins[..cut]);
-                bins.push(240);
+                bins.extend(BYPASS_ENTRY.to_le_bytes());
+                self.list(i, &bins);
+                bins.pop();
                 self.list(i, &bins);
                 bins.pop();
                 bins[cut] ^= 1 << (turn / 7 % 8);
+                self.list(i, &bins);
+                bins[cut] ^= 1 << (turn / 7 % 8);
+                bins.swap(cut & !1, cut | 1);
                 self.list(i, &bins);
             }
             self.list = bins;
@@ -197,7 +202,7 @@ impl Bench {
         peer::lend(&mut self.set, &i.contexts, &i.statistics);
         let mut dec = peer::decoder(i.payload, &i.state);
         let f = peer::block(&mut dec, &mut self.set, &i.params, &mut self.theirs);
-        let (mut contexts, mut statistics) = ([0; 120], [0; 4]);
+        let (mut contexts, mut statistics) = ([0; CONTEXTS], [0; 4]);
         peer::give_back(&mut self.set, &mut contexts, &mut statistics);
         let place = engine::place(&dec);
         if (f.skip, f.rdpcm, f.column, f.row, f.greatest) != (w.skip, w.rdpcm, w.column, w.last_row, w.greatest)
@@ -245,7 +250,7 @@ impl Bench {
             after = i.statistics;
             self.modelled[..n2].fill(0);
         }
-        let seen = r.map(|f| (f.skip, number_of(f.rdpcm), f.column as usize, f.row as usize, f.greatest as i32));
+        let seen = r.map(|f| (f.skip, number_of(f.rdpcm), f.column as usize, f.row as usize, f.greatest as i32)).map_err(Refusal::number);
         if seen != wanted
             || statistics != after
             || self.ours[..n2] != self.modelled[..n2]
@@ -269,7 +274,7 @@ impl Bench {
         }
         room.fill(255);
         let none = write_bins(i.params, &mut short, &self.ours[..i.room], f.skip, f.rdpcm, &mut room[..bins.len() - 1]);
-        if none != Err(12) || room.iter().any(|&b| b != 255) || short != i.statistics {
+        if none != Err(Refusal::ShortRoom) || room.iter().any(|&b| b != 255) || short != i.statistics {
             differ("written in too little room", i, format!("bins {bins:?}\nwritten {none:?}"));
         }
         self.written += 1;

@@ -5,7 +5,8 @@ use crate::compare::{Bench, Input};
 use crate::made::{self, Style};
 use crate::peer;
 use crate::random::Random;
-use bulmegart::{Params, State, bypass, bypass_bin, byte_align, decision, raw_bits, rest, restart, start, terminate};
+use crate::scale;
+use bulmegart::{CONTEXTS, Params, Refusal, State, bypass, bypass_bin, byte_align, decision, raw_bits, rest, restart, start, terminate};
 use std::collections::BTreeMap;
 
 /// A recorded block of a real stream.
@@ -13,7 +14,7 @@ pub struct Real {
     pub params: Params,
     pub state: State,
     pub payload: Vec<u8>,
-    pub contexts: [u8; 120],
+    pub contexts: [u8; CONTEXTS],
     pub statistics: [u8; 4],
 }
 
@@ -53,7 +54,7 @@ pub fn real_blocks(vectors: &str, files: &[&str]) -> Vec<Real> {
                 params,
                 state,
                 payload: hex(f[19]),
-                contexts: hex(f[20])[..120].try_into().unwrap(),
+                contexts: hex(f[20])[..].try_into().unwrap(),
                 statistics: hex(f[21])[..].try_into().unwrap(),
             });
         }
@@ -86,9 +87,9 @@ pub fn params(r: &mut Random) -> Params {
     p
 }
 
-pub fn contexts(r: &mut Random) -> [u8; 120] {
+pub fn contexts(r: &mut Random) -> [u8; CONTEXTS] {
     match r.below(4) {
-        0 => [64; 120],
+        0 => [64; CONTEXTS],
         1 => {
             let states = r.below(64) as u8;
             std::array::from_fn(|_| states.min(r.below(64) as u8) | (r.below(2) as u8) << 6)
@@ -120,7 +121,13 @@ fn bytes(r: &mut Random, length: usize) -> Vec<u8> {
 const LENGTHS: [usize; 32] =
     [2, 2, 2, 3, 3, 4, 4, 5, 6, 7, 8, 9, 10, 11, 12, 13, 15, 16, 17, 20, 23, 24, 25, 31, 32, 33, 48, 63, 64, 65, 120, 400];
 
-fn state(r: &mut Random, payload: &[u8]) -> State {
+/// Bytes of any of the lengths above.
+pub fn payload(r: &mut Random) -> Vec<u8> {
+    let length = r.of(&LENGTHS);
+    bytes(r, length)
+}
+
+pub fn state(r: &mut Random, payload: &[u8]) -> State {
     if r.chance(96)
         && let Ok(s) = start(payload)
     {
@@ -144,7 +151,7 @@ pub fn spoil(r: &mut Random, i: &mut Input) {
             1 => i.params.scan = r.of(&[3, 4, 255, 256, u32::MAX]),
             2 => i.params.depth = r.of(&[0, 7, 17, 18, 264, u32::MAX]),
             3 => i.room = (1usize << (2 * i.params.log2.min(5))).saturating_sub(1 + r.below(3) as usize),
-            4 => i.contexts[r.below(120) as usize] = 128 + r.below(128) as u8,
+            4 => i.contexts[r.below(CONTEXTS as u64) as usize] = 128 + r.below(128) as u8,
             5 => i.statistics[r.below(4) as usize] = 85 + r.below(171) as u8,
             6 => i.state.range = r.of(&[0, 1, 255, 511, 512, u32::MAX]),
             7 => i.state.offset = i.state.range.wrapping_add(r.below(3) as u32),
@@ -224,7 +231,7 @@ fn listed(b: &mut Bench) {
     for (payload, rule, params, statistics) in examples() {
         let payload = hex(payload);
         let before = b.answers.clone();
-        let i = Input { payload: &payload, state: start(&payload).unwrap(), contexts: [64; 120], statistics, params, room: 16 };
+        let i = Input { payload: &payload, state: start(&payload).unwrap(), contexts: [64; CONTEXTS], statistics, params, room: 16 };
         b.block(&i, true);
         let met = b.answers.iter().find(|(k, n)| before.get(k) != Some(n)).map(|(k, _)| k.1);
         assert_eq!(met, Some(rule), "{payload:02x?}");
@@ -232,10 +239,10 @@ fn listed(b: &mut Bench) {
     let long = vec![0u8; (1 << 24) + 1];
     for length in [long.len() - 2, long.len() - 1, long.len()] {
         let payload = &long[..length];
-        assert_eq!(start(payload).err(), (length > 1 << 24).then_some(2));
+        assert_eq!(start(payload).err(), (length > 1 << 24).then_some(Refusal::LongPayload));
         let state = State { range: 510, offset: 9, position: 8 * length - 20, ended: false, past: 0 };
         for params in [Params::plain(2), Params::plain(6)] {
-            let i = Input { payload, state, contexts: [64; 120], statistics: [0; 4], params, room: 16 };
+            let i = Input { payload, state, contexts: [64; CONTEXTS], statistics: [0; 4], params, room: 16 };
             b.block(&i, false);
         }
     }
@@ -252,19 +259,19 @@ pub fn run(vectors: &str, share: u64, seed: u64) {
     let mut starts = BTreeMap::new();
     for k in 0..sets {
         let p = params(&mut r);
-        let (cs, st) = if k % 2 == 0 { ([64; 120], [0; 4]) } else { (contexts(&mut r), statistics(&mut r)) };
+        let (cs, st) = if k % 2 == 0 { ([64; CONTEXTS], [0; 4]) } else { (contexts(&mut r), statistics(&mut r)) };
         for x in 0..=65535u16 {
             let payload = x.to_be_bytes();
             let theirs = CabacDecoder::new_borrowed(&payload).unwrap();
             let s = start(&payload);
-            *starts.entry(s.err().unwrap_or(0)).or_insert(0u64) += 1;
+            *starts.entry(s.err().map_or(0, Refusal::number)).or_insert(0u64) += 1;
             match s {
                 Ok(s) => {
                     assert_eq!((s.range, s.offset, s.position), (theirs.range, theirs.offset, engine::place(&theirs)));
                     let i = Input { payload: &payload, state: s, contexts: cs, statistics: st, params: p, room: 1 << (2 * p.log2) };
                     b.block(&i, x % 64 == 5);
                 }
-                Err(n) => assert!(n == 5 && theirs.offset >= 510), // D1
+                Err(n) => assert!(n == Refusal::BadStart && theirs.offset >= 510), // D1
             }
         }
     }
@@ -358,6 +365,7 @@ pub fn run(vectors: &str, share: u64, seed: u64) {
     }
     report("large statistics and long prefixes", &mut b, &mut t);
 
+    scale::run(vectors, &mut r, count(3_000_000));
     let steps = engine_steps(&mut r, count(4_000_000));
     println!("engine calls compared (decision, bypass, terminate, alignment, restart, raw bits): {steps:?}");
     println!("seed {seed}, blocks {}, of those past the end {}, walks that the Rust's machine decides {}", b.blocks, b.past, b.wild);
@@ -425,7 +433,7 @@ fn engine_steps(r: &mut Random, runs: u64) -> BTreeMap<(&'static str, u32), u64>
                     dec.reinit_after_pcm();
                     if dec.offset >= 510 {
                         *counts.entry(("restart", 5)).or_default() += 1;
-                        assert_eq!(ours, Err(5)); // D1, D10
+                        assert_eq!(ours, Err(Refusal::BadStart)); // D1, D10
                         break;
                     }
                     ("restart", ours.is_ok(), ours, total(&payload, &s, |d| d.reinit_after_pcm()))
@@ -436,7 +444,7 @@ fn engine_steps(r: &mut Random, runs: u64) -> BTreeMap<(&'static str, u32), u64>
                     if bin == 1 {
                         let ended = ours.unwrap().1; // D12
                         assert_eq!((ours.unwrap().0, ended.range, ended.offset, ended.ended), (true, dec.range, dec.offset, true));
-                        assert_eq!((bypass_bin(&payload, ended), decision(&payload, ended, &mut 5)), (Err(6), Err(6)));
+                        assert_eq!((bypass_bin(&payload, ended), decision(&payload, ended, &mut 5)), (Err(Refusal::Ended), Err(Refusal::Ended)));
                         *counts.entry(("ended", 6)).or_default() += 1;
                         break;
                     }

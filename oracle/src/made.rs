@@ -2,7 +2,7 @@
 use crate::cabac::engine::tables;
 use crate::model::{Kind, Scans, Source, Walk, next_context, walk};
 use crate::random::Random;
-use bulmegart::Params;
+use bulmegart::{CONTEXTS, Params};
 
 /// Of 256, how often a bin is 1.
 #[derive(Clone, Copy, Debug)]
@@ -97,7 +97,7 @@ impl Encoder {
 
 pub struct Chooser<'a> {
     pub encoder: Encoder,
-    pub contexts: [u8; 120],
+    pub contexts: [u8; CONTEXTS],
     pub random: &'a mut Random,
     pub style: Style,
     pub ones: u32,
@@ -149,7 +149,7 @@ pub fn block(c: &mut Chooser, p: &Params, scans: &Scans, statistics: &mut [u8; 4
 }
 
 /// A payload of one block.
-pub fn one(random: &mut Random, p: &Params, scans: &Scans, contexts: &[u8; 120], statistics: &[u8; 4], style: Style) -> Vec<u8> {
+pub fn one(random: &mut Random, p: &Params, scans: &Scans, contexts: &[u8; CONTEXTS], statistics: &[u8; 4], style: Style) -> Vec<u8> {
     let mut c = Chooser { encoder: Encoder::new(), contexts: *contexts, random, style, ones: 0 };
     let mut levels = [0; 1024];
     block(&mut c, p, scans, &mut { *statistics }, &mut levels);

@@ -37,6 +37,7 @@ mod error {
 }
 
 mod bench;
+mod cases;
 mod compare;
 mod inputs;
 mod made;
@@ -44,18 +45,20 @@ mod model;
 mod peer;
 mod random;
 mod sample;
+mod scale;
 
 fn main() {
     let words: Vec<String> = std::env::args().skip(1).collect();
     let words: Vec<&str> = words.iter().map(String::as_str).collect();
     match words[..] {
         ["compare", vectors, share, seed] => inputs::run(vectors, share.parse().unwrap(), seed.parse().unwrap()),
+        ["cases", vectors] => cases::run(vectors),
         ["sample", seed] => sample::write(seed.parse().unwrap()),
         ["frame", values, qp, log2, seed] => sample::frame(values, qp.parse().unwrap(), log2.parse().unwrap(), seed.parse().unwrap()),
         ["bench", vectors, rounds] => bench::run(vectors, rounds.parse().unwrap(), None),
         ["bench", vectors, rounds, side, row] => bench::run(vectors, rounds.parse().unwrap(), Some((side, row.parse().unwrap()))),
         _ => {
-            eprintln!("oracle compare VECTORS SHARE SEED | oracle bench VECTORS ROUNDS [ours|rust ROW] | oracle sample SEED | oracle frame VALUES QP LOG2 SEED");
+            eprintln!("oracle compare VECTORS SHARE SEED | oracle cases VECTORS | oracle bench VECTORS ROUNDS [ours|rust ROW] | oracle sample SEED | oracle frame VALUES QP LOG2 SEED");
             std::process::exit(2);
         }
     }

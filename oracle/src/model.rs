@@ -3,7 +3,7 @@
 //! The walk goes on as the Rust does, with its 32 bits, also where document 01 refuses; it notes the first refusal and the rule of
 //! docs/DIFFERENCES.md that it falls under. So one walk says what document 01 answers, and what the Rust must give.
 use crate::cabac::engine::tables;
-use bulmegart::Params;
+use bulmegart::{ALIGNMENT_ENTRY, BYPASS_ENTRY, CONTEXTS, Params};
 
 /// What a bypass bin is for.
 #[derive(Clone, Copy, PartialEq, Eq, Debug)]
@@ -49,11 +49,15 @@ pub struct Engine<'a> {
     pub range: u32,
     pub offset: u32,
     pub at: usize,
-    pub contexts: [u8; 120],
+    pub contexts: [u8; CONTEXTS],
     pub list: Vec<u8>,
 }
 
 impl Engine<'_> {
+    fn listed(&mut self, entry: u16) {
+        self.list.extend(entry.to_le_bytes());
+    }
+
     fn draw(&mut self) {
         let bit = match self.payload.get(self.at / 8) {
             Some(byte) => byte >> (7 - self.at % 8) & 1,
@@ -81,7 +85,7 @@ impl Source for Engine<'_> {
             self.range <<= 1;
             self.draw();
         }
-        self.list.push(2 * number as u8 + bin as u8);
+        self.listed(2 * number as u16 + bin as u16);
         bin
     }
 
@@ -89,29 +93,38 @@ impl Source for Engine<'_> {
         self.draw();
         let bin = (self.offset >= self.range) as u32;
         self.offset -= bin * self.range;
-        self.list.push(240 + bin as u8);
+        self.listed(BYPASS_ENTRY + bin as u16);
         bin
     }
 
     fn align(&mut self) -> bool {
-        self.list.push(242);
+        self.listed(ALIGNMENT_ENTRY);
         self.range = 256;
         self.offset >= 256
     }
 }
 
-/// A bin list; behind a failure every bin is 0, which ends each loop.
+/// A bin list, two bytes an entry; behind a failure every bin is 0, which ends each loop.
 pub struct List<'a> {
     pub list: &'a [u8],
+    /// In bytes.
     pub at: usize,
     pub failed: bool,
 }
 
 impl List<'_> {
-    fn tagged(&mut self, tag: usize) -> u32 {
-        match self.list.get(self.at) {
-            Some(&entry) if !self.failed && entry as usize & !1 == tag => {
-                self.at += 1;
+    /// The next entry; none where less than two bytes are left.
+    fn entry(&self) -> Option<u16> {
+        match self.list[self.at..] {
+            [low, high, ..] => Some(u16::from(low) + 256 * u16::from(high)),
+            _ => None,
+        }
+    }
+
+    fn tagged(&mut self, tag: u16) -> u32 {
+        match self.entry() {
+            Some(entry) if !self.failed && entry & !1 == tag => {
+                self.at += 2;
                 entry as u32 & 1
             }
             _ => {
@@ -124,16 +137,16 @@ impl List<'_> {
 
 impl Source for List<'_> {
     fn decision(&mut self, number: usize) -> u32 {
-        self.tagged(2 * number)
+        self.tagged(2 * number as u16)
     }
 
     fn bypass(&mut self, _: Kind) -> u32 {
-        self.tagged(240)
+        self.tagged(BYPASS_ENTRY)
     }
 
     fn align(&mut self) -> bool {
-        match self.list.get(self.at) {
-            Some(242) if !self.failed => self.at += 1,
+        match self.entry() {
+            Some(ALIGNMENT_ENTRY) if !self.failed => self.at += 2,
             _ => self.failed = true,
         }
         false

@@ -2,7 +2,7 @@
 use crate::cabac::contexts::{ContextSet, CtxModel};
 use crate::cabac::engine::{self, CabacDecoder};
 use crate::cabac::residual_full::{RextResidual, residual_coding, resolve_residual_scan_tables};
-use bulmegart::{Params, State};
+use bulmegart::{CONTEXTS, Params, State};
 
 /// Where the lent values of each kind stand; H.265's order of syntax elements is document 01's.
 macro_rules! kinds {
@@ -16,6 +16,8 @@ macro_rules! kinds {
         $each(&mut $set.transform_skip_flag, &mut $lent[114..116]);
         $each(&mut $set.explicit_rdpcm_flag, &mut $lent[116..118]);
         $each(&mut $set.explicit_rdpcm_dir, &mut $lent[118..120]);
+        $each(&mut $set.log2_res_scale_abs_plus1, &mut $lent[120..128]);
+        $each(&mut $set.res_scale_sign_flag, &mut $lent[128..130]);
     };
 }
 
@@ -32,13 +34,13 @@ fn store(models: &mut [CtxModel], lent: &mut [u8]) {
 }
 
 /// The set with the lent contexts and statistics; what is no part of the residual stays as it was.
-pub fn lend(set: &mut ContextSet, contexts: &[u8; 120], statistics: &[u8; 4]) {
+pub fn lend(set: &mut ContextSet, contexts: &[u8; CONTEXTS], statistics: &[u8; 4]) {
     let mut lent = *contexts;
     kinds!(set, lent, load);
     set.stat_coeff = *statistics;
 }
 
-pub fn give_back(set: &mut ContextSet, contexts: &mut [u8; 120], statistics: &mut [u8; 4]) {
+pub fn give_back(set: &mut ContextSet, contexts: &mut [u8; CONTEXTS], statistics: &mut [u8; 4]) {
     kinds!(set, contexts, store);
     *statistics = set.stat_coeff;
 }

@@ -5,7 +5,7 @@ use crate::inputs;
 use crate::made::{self, Style};
 use crate::model::{List, Walk, walk};
 use crate::random::Random;
-use bulmegart::{State, start};
+use bulmegart::{CONTEXTS, State, start};
 use std::collections::BTreeMap;
 
 /// Of each kind (number, rule, size, and whether it ran past the end) so many, accepted and refused.
@@ -14,14 +14,14 @@ const ALL: usize = 500;
 /// What the program's block holds before a call.
 const BEHIND: i32 = 7;
 
-fn hex(bytes: &[u8]) -> String {
+pub fn hex(bytes: &[u8]) -> String {
     if bytes.is_empty() {
         return "-".into();
     }
     bytes.iter().map(|b| format!("{b:02x}")).collect()
 }
 
-fn levels(block: &[i32]) -> String {
+pub fn levels(block: &[i32]) -> String {
     let shown: Vec<String> = block.iter().enumerate().filter(|(_, v)| **v != 0).map(|(k, v)| format!("{k}:{v}")).collect();
     if shown.is_empty() { "-".into() } else { shown.join(",") }
 }
@@ -68,7 +68,7 @@ fn record(b: &mut Bench, i: &Input) -> Option<(String, (u32, &'static str, u32, 
         };
         kind = (w.refusal.map_or(0, |r| r.number), w.refusal.map_or("", |r| r.rule), p.log2, e.at > end);
     }
-    if list.len() > 400 {
+    if list.len() > 800 {
         return None;
     }
     let bins_line = bins(b, i, &list, area)?;
@@ -116,7 +116,7 @@ pub fn write(seed: u64) {
     let mut kept = Vec::new();
     for (payload, _, params, statistics) in inputs::examples() {
         let payload = inputs::hex(payload);
-        let i = Input { payload: &payload, state: start(&payload).unwrap(), contexts: [64; 120], statistics, params, room: 1024 };
+        let i = Input { payload: &payload, state: start(&payload).unwrap(), contexts: [64; CONTEXTS], statistics, params, room: 1024 };
         kept.push(record(&mut b, &i).unwrap().0);
     }
     while kept.len() < ALL {
@@ -153,11 +153,11 @@ pub fn write(seed: u64) {
     }
 }
 
-/// A made luma block as the program show reads it: 8 bytes, 120 initial values (hexadecimal), the payload.
+/// A made luma block as the program show reads it: 8 bytes, the initial values (hexadecimal), the payload.
 pub fn frame(values: &str, qp: u8, log2: u32, seed: u64) {
     let b = Bench::new();
     let values = inputs::hex(values);
-    let (mut contexts, mut statistics) = ([0; 120], [0; 4]);
+    let (mut contexts, mut statistics) = ([0; CONTEXTS], [0; 4]);
     bulmegart::init_contexts(&mut contexts, &mut statistics, &values, qp).unwrap();
     let style = Style { last: 170, sub_block: 150, significant: 110, greater1: 110, greater2: 150, prefix: 150, suffix: 128, longest: 9 };
     let p = bulmegart::Params { hiding: true, ..bulmegart::Params::plain(log2) };

@@ -16,6 +16,12 @@ fn bytes(hex: &str) -> Vec<u8> {
     (0..hex.len() / 2).map(|k| u8::from_str_radix(&hex[2 * k..2 * k + 2], 16).unwrap()).collect()
 }
 
+/// A recorded list has a byte for each entry, 240 and above for what is no decision.
+fn wide(list: &[u8]) -> Vec<u8> {
+    let entry = |&b: &u8| if b < 240 { b as u16 } else { BYPASS_ENTRY + (b - 240) as u16 };
+    list.iter().flat_map(|b| entry(b).to_le_bytes()).collect()
+}
+
 fn recorded(line: &str) -> Option<Recorded> {
     let f: Vec<&str> = line.split(' ').collect();
     if f[0] != "B" || f[23] != "0" {
@@ -40,7 +46,7 @@ fn recorded(line: &str) -> Option<Recorded> {
         extended: on(14),
     };
     let statistics: [u8; 4] = bytes(f[21]).try_into().unwrap();
-    let list = bytes(f[22]);
+    let list = wide(&bytes(f[22]));
     let mut levels = vec![0; 1024];
     let found = read_bins(&list, &mut statistics.clone(), params, &mut levels).unwrap();
     Some(Recorded { params, statistics, list, levels, found })
@@ -50,7 +56,7 @@ fn main() {
     let args: Vec<String> = std::env::args().collect();
     let text = std::fs::read_to_string(&args[1]).unwrap();
     let blocks: Vec<Recorded> = text.lines().filter_map(recorded).collect();
-    let (mut room, mut levels) = (vec![0; 65536], vec![0; 1024]);
+    let (mut room, mut levels) = (vec![0; longest_list(5)], vec![0; 1024]);
     let (mut reading, mut writing) = (f64::MAX, f64::MAX);
     for _ in 0..args[2].parse::<u32>().unwrap() {
         let start = Instant::now();

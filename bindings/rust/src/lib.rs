@@ -1,42 +1,98 @@
-//! The arithmetic engine of H.265 (CABAC) and the two readers of a residual block, proved in Rattle, as safe functions.
+//! The arithmetic engine of H.265 (CABAC), the two readers of a residual block, the writer of bins, and the scale of cross-component
+//! prediction, proved in Rattle, as safe functions.
 //!
-//! Each function takes any slices, any state and any numbers, and ends. A refusal is `Err` with document 01's number:
+//! Each function takes any slices, any state and any numbers, and ends. A refusal is `Err` with document 01's number, a [`Refusal`]; contexts and
+//! statistics are then those handed in, and the caller's state stands.
 //!
-//! | number | given exactly when |
-//! |---|---|
-//! | 1 | payload under 2 bytes |
-//! | 2 | payload over 16,777,216 bytes |
-//! | 3 | impossible state: a context byte above 127; a statistic above 84; a position beyond 8 times the payload length; or, unless ended, not 256 ≤ range ≤ 510 with offset < range |
-//! | 4 | parameter out of its limits |
-//! | 5 | starting offset 510 or 511 |
-//! | 6 | engine has ended |
-//! | 7 | alignment wanted while the offset is 256 or more |
-//! | 8 | level outside the coefficient range |
-//! | 13 | bin reader: list ends early, has another tag, or has bins left over |
+//! A payload is a slice's data with its emulation prevention bytes taken out. A list of bins has two bytes for each entry, low byte first:
+//! 2·context number + bin, [`BYPASS_ENTRY`] + bin, or [`ALIGNMENT_ENTRY`] where the range is aligned. Lengths count bytes.
 //!
-//! Where several apply: 1, 2, 4, 3, 6, 5, then the order of reading. After a refusal contexts and statistics are those handed in, and
-//! the caller's state stands.
+//! A [`Reader`] carries payload, state, contexts and statistics from one call to the next:
 //!
 //! ```
-//! use bulmegart::{init_contexts, read_block, start, Params};
+//! use bulmegart::{Params, Reader, CONTEXTS};
+//!
+//! let mut reader = Reader::start(&[0xfe, 0x80], &[154; CONTEXTS], 26)?;
+//! let mut levels = [0; 16];
+//! let found = reader.read_block(Params::plain(2), &mut levels)?;
+//! assert_eq!((levels[0], found.greatest, reader.state.position, reader.state.past), (-1, 1, 13, 0));
+//! # Ok::<(), bulmegart::Refusal>(())
+//! ```
+//!
+//! The same by functions that keep nothing:
+//!
+//! ```
+//! use bulmegart::{init_contexts, read_block, start, Params, CONTEXTS, STATISTICS};
 //!
 //! let payload = [0xfe, 0x80];
-//! let (mut contexts, mut statistics) = ([0; 120], [0; 4]);
-//! init_contexts(&mut contexts, &mut statistics, &[154; 120], 26)?;
+//! let (mut contexts, mut statistics) = ([0; CONTEXTS], [0; STATISTICS]);
+//! init_contexts(&mut contexts, &mut statistics, &[154; CONTEXTS], 26)?;
 //! let mut levels = [0; 16];
 //! let (found, state) = read_block(&payload, start(&payload)?, &mut contexts, &mut statistics, Params::plain(2), &mut levels)?;
 //! assert_eq!((levels[0], found.greatest, state.position), (-1, 1, 13));
-//! # Ok::<(), u32>(())
+//! # Ok::<(), bulmegart::Refusal>(())
 //! ```
+//!
+//! The numbers as C has them are in [`raw`].
+#![deny(missing_docs)]
+
 pub mod raw;
+mod reader;
+mod refusal;
 
 use raw::*;
+pub use reader::Reader;
+pub use refusal::Refusal;
 
-/// How many packed contexts there are: last x prefix 0-17, last y prefix 18-35, significance 36-79, coded sub-block 80-83, greater1 84-107,
-/// greater2 108-113, transform skip 114-115, explicit RDPCM flag 116-117, its direction 118-119.
-pub const CONTEXTS: usize = 120;
-/// How many statistics of persistent Rice there are.
+/// How many packed contexts there are; [`contexts`] has their order. Each is a byte, 0 to 127: bits 0 to 5 its state, bit 6 the favoured bin.
+pub const CONTEXTS: usize = contexts::SCALE_SIGN.end;
+/// How many statistics of persistent Rice there are, 0 to 84 each: chroma, chroma with skip or bypass, luma, luma with skip or bypass.
 pub const STATISTICS: usize = 4;
+/// The entry of a bypass bin that is 0; one more is the entry of one that is 1.
+pub const BYPASS_ENTRY: u16 = 2 * CONTEXTS as u16;
+/// The entry that stands where the range is aligned.
+pub const ALIGNMENT_ENTRY: u16 = BYPASS_ENTRY + 2;
+/// The bytes of the longest list of a scale.
+pub const LONGEST_SCALE_LIST: usize = 10;
+
+/// The bytes of the longest list of a block of side 2^log2; a room of so many is never too small. 0 for a size that no block has.
+pub const fn longest_list(log2: u32) -> usize {
+    match log2 {
+        2 => 1_124,
+        3 => 4_464,
+        4 => 17_796,
+        5 => 71_088,
+        _ => 0,
+    }
+}
+
+/// Which contexts, and so which initial values, each syntax element has.
+pub mod contexts {
+    use std::ops::Range;
+
+    /// `last_sig_coeff_x_prefix`: 15 luma, 3 chroma.
+    pub const LAST_X_PREFIX: Range<usize> = 0..18;
+    /// `last_sig_coeff_y_prefix`: 15 luma, 3 chroma.
+    pub const LAST_Y_PREFIX: Range<usize> = 18..36;
+    /// `sig_coeff_flag`: 27 luma, 15 chroma; then luma and chroma of the skip context.
+    pub const SIGNIFICANCE: Range<usize> = 36..80;
+    /// `coded_sub_block_flag`: 2 luma, 2 chroma.
+    pub const CODED_SUB_BLOCK: Range<usize> = 80..84;
+    /// `coeff_abs_level_greater1_flag`: 16 luma, 8 chroma.
+    pub const GREATER1: Range<usize> = 84..108;
+    /// `coeff_abs_level_greater2_flag`: 4 luma, 2 chroma.
+    pub const GREATER2: Range<usize> = 108..114;
+    /// `transform_skip_flag`: luma, chroma.
+    pub const TRANSFORM_SKIP: Range<usize> = 114..116;
+    /// `explicit_rdpcm_flag`: luma, chroma.
+    pub const RDPCM_FLAG: Range<usize> = 116..118;
+    /// `explicit_rdpcm_dir_flag`: luma, chroma.
+    pub const RDPCM_DIRECTION: Range<usize> = 118..120;
+    /// `log2_res_scale_abs_plus1`: 4·component + bin number.
+    pub const SCALE_VALUE: Range<usize> = 120..128;
+    /// `res_scale_sign_flag`: component.
+    pub const SCALE_SIGN: Range<usize> = 128..130;
+}
 
 /// The engine's state between calls.
 #[derive(Clone, Copy, Debug, PartialEq, Eq)]
@@ -62,6 +118,7 @@ pub struct Params {
     pub scan: u32,
     /// Bit depth of the component, 8 to 16.
     pub depth: u32,
+    /// Luma; else chroma.
     pub luma: bool,
     /// Sign hiding enabled.
     pub hiding: bool,
@@ -77,6 +134,7 @@ pub struct Params {
     pub explicit_rdpcm: bool,
     /// Implicit RDPCM enabled, in an intra block of mode 10 or 26.
     pub implicit_rdpcm: bool,
+    /// Inter block.
     pub inter: bool,
     /// Bypass alignment enabled.
     pub aligning: bool,
@@ -127,13 +185,14 @@ impl Params {
     }
 }
 
-/// Explicit RDPCM.
+/// Explicit RDPCM: document 01's none, 0, 1, and 0, 1, 2 in C.
 #[derive(Clone, Copy, Debug, PartialEq, Eq)]
 pub enum Rdpcm {
+    /// Not used; 0 in C.
     None,
-    /// Direction 0.
+    /// Document 01's direction 0; 1 in C.
     Horizontal,
-    /// Direction 1.
+    /// Document 01's direction 1; 2 in C.
     Vertical,
 }
 
@@ -142,10 +201,11 @@ pub enum Rdpcm {
 pub struct Found {
     /// Transform skip.
     pub skip: bool,
+    /// Explicit RDPCM.
     pub rdpcm: Rdpcm,
-    /// Greatest x of a level that is not 0.
+    /// Column extent: the greatest column that holds a non-zero level; every column beyond it is zero.
     pub column: u32,
-    /// Greatest y of a level that is not 0. Every place with a greater x than `column` or a greater y than this is 0.
+    /// Row extent: the greatest row that holds a non-zero level; every row beyond it is zero.
     pub row: u32,
     /// Greatest magnitude.
     pub greatest: u32,
@@ -181,21 +241,21 @@ fn found(f: RawFound) -> Found {
 }
 
 #[inline]
-fn accepted<T>(number: u32, value: T) -> Result<T, u32> {
+fn accepted<T>(number: u32, value: T) -> Result<T, Refusal> {
     if number == 0 {
         Ok(value)
     } else {
-        Err(number)
+        Err(Refusal::of_number(number).expect("the archive answers by document 01's numbers"))
     }
 }
 
 #[inline]
-fn bins(r: RawBinsAnswer) -> Result<(u32, State), u32> {
+fn bins(r: RawBinsAnswer) -> Result<(u32, State), Refusal> {
     accepted(r.number, (r.value, seen(r.state)))
 }
 
 #[inline]
-fn bin(r: RawBinsAnswer) -> Result<(bool, State), u32> {
+fn bin(r: RawBinsAnswer) -> Result<(bool, State), Refusal> {
     accepted(r.number, (r.value != 0, seen(r.state)))
 }
 
@@ -205,61 +265,61 @@ pub fn init(value: u8, qp: u8) -> u8 {
     unsafe { bulmegart_init(value, qp) }
 }
 
-/// Contexts from 120 initial values; the statistics become 0. Refusal: 4 unless there are 120 values, and both stand as they were.
-pub fn init_contexts(contexts: &mut [u8; CONTEXTS], statistics: &mut [u8; STATISTICS], values: &[u8], qp: u8) -> Result<(), u32> {
+/// Contexts from as many initial values; the statistics become 0. Refusal: 4 unless there are [`CONTEXTS`] values, and both stand as they were.
+pub fn init_contexts(contexts: &mut [u8; CONTEXTS], statistics: &mut [u8; STATISTICS], values: &[u8], qp: u8) -> Result<(), Refusal> {
     // Sound, as each call below: every pointer comes from a borrow of the length handed on, and what is written is borrowed alone.
     let number = unsafe { bulmegart_init_contexts(contexts.as_mut_ptr(), statistics.as_mut_ptr(), values.as_ptr(), values.len(), qp) };
     accepted(number, ())
 }
 
 /// Start: range 510, offset the first 9 bits. Refusals: 1, 2, 5.
-pub fn start(payload: &[u8]) -> Result<State, u32> {
+pub fn start(payload: &[u8]) -> Result<State, Refusal> {
     let r = unsafe { bulmegart_start(payload.as_ptr(), payload.len()) };
     accepted(r.number, seen(r.state))
 }
 
 /// One decision on a packed context, which it changes. Refusals: 1, 2, 3, 6; the context then stands.
-pub fn decision(payload: &[u8], state: State, context: &mut u8) -> Result<(bool, State), u32> {
+pub fn decision(payload: &[u8], state: State, context: &mut u8) -> Result<(bool, State), Refusal> {
     let r = unsafe { bulmegart_decision(payload.as_ptr(), payload.len(), state.raw(), *context) };
     *context = r.context;
     accepted(r.number, (r.bin != 0, seen(r.state)))
 }
 
 /// One bypass bin. Refusals: 1, 2, 3, 6.
-pub fn bypass_bin(payload: &[u8], state: State) -> Result<(bool, State), u32> {
+pub fn bypass_bin(payload: &[u8], state: State) -> Result<(bool, State), Refusal> {
     bin(unsafe { bulmegart_bypass_bin(payload.as_ptr(), payload.len(), state.raw()) })
 }
 
 /// Bypass bins, 0 to 32 of them, the first one highest. Refusals: 1, 2, 4 (count), 3, 6.
-pub fn bypass(payload: &[u8], state: State, count: u32) -> Result<(u32, State), u32> {
+pub fn bypass(payload: &[u8], state: State, count: u32) -> Result<(u32, State), Refusal> {
     bins(unsafe { bulmegart_bypass(payload.as_ptr(), payload.len(), state.raw(), count) })
 }
 
 /// Terminate: true ends the engine. Refusals: 1, 2, 3, 6.
-pub fn terminate(payload: &[u8], state: State) -> Result<(bool, State), u32> {
+pub fn terminate(payload: &[u8], state: State) -> Result<(bool, State), Refusal> {
     bin(unsafe { bulmegart_terminate(payload.as_ptr(), payload.len(), state.raw()) })
 }
 
 /// Byte alignment: the position rounded up to a whole byte. Refusals: 1, 2, 3.
-pub fn byte_align(payload: &[u8], state: State) -> Result<State, u32> {
+pub fn byte_align(payload: &[u8], state: State) -> Result<State, Refusal> {
     let r = unsafe { bulmegart_byte_align(payload.as_ptr(), payload.len(), state.raw()) };
     accepted(r.number, seen(r.state))
 }
 
 /// The rest of the payload behind byte alignment. Refusals: 1, 2, 3.
-pub fn rest(payload: &[u8], state: State) -> Result<&[u8], u32> {
+pub fn rest(payload: &[u8], state: State) -> Result<&[u8], Refusal> {
     let r = unsafe { bulmegart_rest(payload.as_ptr(), payload.len(), state.raw()) };
     accepted(r.number, &payload[r.first..])
 }
 
 /// Restart: align, range 510, 9 bits; ended is cleared, past kept, and added to if it reads past the end. Refusals: 1, 2, 3, 5.
-pub fn restart(payload: &[u8], state: State) -> Result<State, u32> {
+pub fn restart(payload: &[u8], state: State) -> Result<State, Refusal> {
     let r = unsafe { bulmegart_restart(payload.as_ptr(), payload.len(), state.raw()) };
     accepted(r.number, seen(r.state))
 }
 
 /// Raw bits, 0 to 32 of them, in any phase: range and offset stay. Refusals: 1, 2, 4 (count), 3.
-pub fn raw_bits(payload: &[u8], state: State, count: u32) -> Result<(u32, State), u32> {
+pub fn raw_bits(payload: &[u8], state: State, count: u32) -> Result<(u32, State), Refusal> {
     bins(unsafe { bulmegart_raw_bits(payload.as_ptr(), payload.len(), state.raw(), count) })
 }
 
@@ -274,7 +334,7 @@ pub fn read_block(
     statistics: &mut [u8; STATISTICS],
     params: Params,
     levels: &mut [i32],
-) -> Result<(Found, State), u32> {
+) -> Result<(Found, State), Refusal> {
     let r = unsafe {
         bulmegart_read_block(
             payload.as_ptr(),
@@ -290,11 +350,11 @@ pub fn read_block(
     accepted(r.number, (found(r.found), seen(r.state)))
 }
 
-/// One block from a bin list, which it must end. An entry is 2·context number + bin; 240 and 241 bypass; 242 where the range is aligned.
+/// One block from a bin list, which it must end.
 ///
 /// Refusals: 4, 3 with the levels untouched, then 8 or 13 in the order of reading with n·n levels zero. Statistics move on
 /// acceptance alone.
-pub fn read_bins(list: &[u8], statistics: &mut [u8; STATISTICS], params: Params, levels: &mut [i32]) -> Result<Found, u32> {
+pub fn read_bins(list: &[u8], statistics: &mut [u8; STATISTICS], params: Params, levels: &mut [i32]) -> Result<Found, Refusal> {
     let r = unsafe {
         bulmegart_read_bins(list.as_ptr(), list.len(), statistics.as_mut_ptr(), params.raw(), levels.as_mut_ptr(), levels.len())
     };
@@ -313,7 +373,7 @@ pub fn write_bins(
     skip: bool,
     rdpcm: Rdpcm,
     room: &mut [u8],
-) -> Result<usize, u32> {
+) -> Result<usize, Refusal> {
     let choice = match rdpcm {
         Rdpcm::None => 0,
         Rdpcm::Horizontal => 1,
@@ -331,5 +391,28 @@ pub fn write_bins(
             room.len(),
         )
     };
+    accepted(r.number, r.length)
+}
+
+/// One scale of cross-component prediction from a payload, of chroma component 0 or 1: 0, ±1, ±2, ±4 or ±8.
+///
+/// Refusals: 1, 2, 4 (component), 3, 6. Contexts move on acceptance alone.
+pub fn read_scale(payload: &[u8], state: State, contexts: &mut [u8; CONTEXTS], component: u32) -> Result<(i32, State), Refusal> {
+    let r = unsafe { bulmegart_read_scale(payload.as_ptr(), payload.len(), state.raw(), contexts.as_mut_ptr(), component) };
+    accepted(r.number, (r.scale, seen(r.state)))
+}
+
+/// One scale from a bin list, which it must end. Refusals: 4 (component), 13.
+pub fn read_scale_bins(list: &[u8], component: u32) -> Result<i32, Refusal> {
+    let r = unsafe { bulmegart_read_scale_bins(list.as_ptr(), list.len(), component) };
+    accepted(r.number, r.scale)
+}
+
+/// One scale as a bin list at the front of the room: the one list that [`read_scale_bins`] reads as it. Answers its length; the room beyond it is
+/// untouched.
+///
+/// Refusals, with the room untouched: 4 (component, or a scale that is none of the nine, which is when no list of any length reads as it), 12.
+pub fn write_scale(component: u32, scale: i32, room: &mut [u8]) -> Result<usize, Refusal> {
+    let r = unsafe { bulmegart_write_scale(component, scale, room.as_mut_ptr(), room.len()) };
     accepted(r.number, r.length)
 }

@@ -13,7 +13,7 @@ use Rattle.bins.specs.declared.state.Interval.{Interval}
 use Rattle.bins.specs.declared.state.Taken.{Taken}
 use Rattle.bins.specs.Bits.{bits, ends, pastMost}
 use Rattle.bins.specs.Engine.{bitNo}
-use Rattle.bins.specs.Tags.{tag, bypassNo, alignTag}
+use Rattle.bins.specs.Tags.{tag, bypassNo, alignTag, isEntry}
 use Rattle.bins.specs.Interval.{placeOf, ranOn, Goes, fetchedOn, decidedOn, bypassedOn}
 use Rattle.bins.specs.IntervalLaws.{decided-goes, decided-packed, bypassed-goes, bypassed-lt}
 use Rattle.bins.specs.BypassLaws.{bypassed-add, bypassed-add-next}
@@ -40,19 +40,19 @@ pub record Ready (s : Bool) (l : List ℕ) (n : ℕ) (r : Cursor) : Type 0 where
   pub many : length (r .contexts) ≡ n
 
 -- ---- one step
-entry-ready : (l : List ℕ) (x : Interval) (t : Took Interval) → (b : Bool) → ltb (placeOf x) (length l) ≡ b
+entry-ready : (l : List ℕ) (x : Interval) (t : Took Interval) → (b : Bool) → ltb (placeOf x + 1) (length l) ≡ b
     → (b ≡ true → After (λ y. placeOf y ≤ length l) t) → After (λ y. placeOf y ≤ length l) (cond b t (refused 13))
 entry-ready l x t true q h = h refl
 entry-ready l x t false q h = tt
 
-pick-ready : (l : List ℕ) (x : Interval) (u v : Bool) → placeOf x < length l
+pick-ready : (l : List ℕ) (x : Interval) (u v : Bool) → placeOf x + 1 < length l
     → After (λ y. placeOf y ≤ length l) (pickBin u v (refused 13) (λ b. took b (behind x)))
 unfolding pickBin
 pick-ready l x true v h = omega arith
 pick-ready l x false true h = omega arith
 pick-ready l x false false h = tt
 
-align-ready : (l : List ℕ) (x : Interval) (u : Bool) → placeOf x < length l
+align-ready : (l : List ℕ) (x : Interval) (u : Bool) → placeOf x + 1 < length l
     → After (λ y. placeOf y ≤ length l) (cond u (took false (behind x)) (refused 13))
 align-ready l x true h = omega arith
 align-ready l x false h = tt
@@ -60,14 +60,14 @@ align-ready l x false h = tt
 pub bin-readable : (l : List ℕ) (c : ℕ) (x : Interval) → After (λ y. placeOf y ≤ length l) (entryBin l c x)
 unfolding entryBin binOf
 bin-readable l c x =
-    entry-ready l x (binOf c (getD l (placeOf x) 0) (refused 13) (λ b. took b (behind x))) (ltb (placeOf x) (length l)) refl
-    (λ q. pick-ready l x (eqb (getD l (placeOf x) 0) (tag c false)) (eqb (getD l (placeOf x) 0) (tag c true)) (ltb-true _ _ q))
+    entry-ready l x (binOf c (getD l (placeOf x) 0) (getD l (placeOf x + 1) 0) (refused 13) (λ b. took b (behind x))) (ltb (placeOf x + 1) (length l)) refl
+    (λ q. pick-ready l x (isEntry (getD l (placeOf x) 0) (getD l (placeOf x + 1) 0) (tag c false)) (isEntry (getD l (placeOf x) 0) (getD l (placeOf x + 1) 0) (tag c true)) (ltb-true _ _ q))
 
 align-readable : (l : List ℕ) (x : Interval) → After (λ y. placeOf y ≤ length l) (entryAlign l x)
 unfolding entryAlign
 align-readable l x =
-    entry-ready l x (cond (eqb (getD l (placeOf x) 0) alignTag) (took false (behind x)) (refused 13)) (ltb (placeOf x) (length l)) refl
-    (λ q. align-ready l x (eqb (getD l (placeOf x) 0) alignTag) (ltb-true _ _ q))
+    entry-ready l x (cond (isEntry (getD l (placeOf x) 0) (getD l (placeOf x + 1) 0) alignTag) (took false (behind x)) (refused 13)) (ltb (placeOf x + 1) (length l)) refl
+    (λ q. align-ready l x (isEntry (getD l (placeOf x) 0) (getD l (placeOf x + 1) 0) alignTag) (ltb-true _ _ q))
 
 with-ready : (s : Bool) (l : List ℕ) (n : ℕ) (cs : List ℕ) (t : Took Interval) → Packed cs → length cs ≡ n → After (Readable s l) t
     → After (Ready s l n) (withContexts cs t)

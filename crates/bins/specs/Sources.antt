@@ -1,14 +1,15 @@
 -- The source that a reader's code reads: a bin list or a payload, by a Bool, from an interval and the contexts.
-use Prim.Native.Nat.{ℕ, _+_, _≤_}
+use Prim.Native.Nat.{ℕ, _+_, _*_, _≤_, _<_}
+use mathlib.Core.Path.{_≡_}
 use mathlib.Core.List.{List}
 use mathlib.Core.Bool.{Bool, true, false, cond}
 use lib.ListN.{length, getD, set}
-use lib.Dec.{ltb, leb, eqb}
+use lib.Dec.{ltb, leb}
 use Rattle.bins.specs.declared.state.Interval.{Interval}
 use Rattle.bins.specs.declared.state.Step.{Step}
 use Rattle.bins.specs.declared.state.Step.the-variants as step
 use Rattle.bins.specs.Engine.{bitNo}
-use Rattle.bins.specs.Tags.{bypassNo, alignTag}
+use Rattle.bins.specs.Tags.{bypassNo, alignTag, isEntry}
 use Rattle.bins.specs.Syn.{Took, took, refused, Source, Out, binOf, run}
 use Rattle.bins.specs.Readers.{bitsS}
 use Rattle.bins.specs.Interval.{placeOf, Goes, decidedOn, bypassedOn}
@@ -22,17 +23,23 @@ abbrev pub stepOfBits : Out Interval ℕ → Step
 stepOfBits (Out.ok v x) = step.Bin v x
 stepOfBits (Out.no n x) = step.Refused n
 
--- ---- a list, by the place of its next entry
+-- ---- a list, by the place of its next byte: an entry is two
 abbrev pub behind : Interval → Interval
-behind x = record { range = x .range; offset = x .offset; at = record { 0 = placeOf x + 1 } }
+behind x = record { range = x .range; offset = x .offset; at = record { 0 = placeOf x + 2 } }
+
+-- an entry as the code has it: the two bytes at place i as a number
+pub record Tagged (l : List ℕ) (i t : ℕ) : Type 0 where
+  pub is : t ≡ getD l i 0 + 256 * getD l (i + 1) 0
+  pub lowByte : getD l i 0 < 256
+  pub highByte : getD l (i + 1) 0 < 256
 
 unfoldable pub entryBin : List ℕ → ℕ → Interval → Took Interval
 entryBin l c x =
-    cond (ltb (placeOf x) (length l)) (binOf c (getD l (placeOf x) 0) (refused 13) (λ b. took b (behind x))) (refused 13)
+    cond (ltb (placeOf x + 1) (length l)) (binOf c (getD l (placeOf x) 0) (getD l (placeOf x + 1) 0) (refused 13) (λ b. took b (behind x))) (refused 13)
 
 unfoldable pub entryAlign : List ℕ → Interval → Took Interval
 entryAlign l x =
-    cond (ltb (placeOf x) (length l)) (cond (eqb (getD l (placeOf x) 0) alignTag) (took false (behind x)) (refused 13)) (refused 13)
+    cond (ltb (placeOf x + 1) (length l)) (cond (isEntry (getD l (placeOf x) 0) (getD l (placeOf x + 1) 0) alignTag) (took false (behind x)) (refused 13)) (refused 13)
 
 -- ---- one step of either source
 unfoldable pub binFrom : Bool → List ℕ → ℕ → ℕ → Interval → Took Interval

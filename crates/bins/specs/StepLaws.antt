@@ -1,7 +1,7 @@
 -- An answer of a step taken apart: what it says of the source. Assumes nothing.
 use Prim.Native.Nat.{ℕ, zero, suc, _+_, _-_, _*_, _^_, _≤_, _<_}
 use mathlib.Core.Path.{_≡_, refl, sym, ap, subst, _∙_}
-use mathlib.Core.Bool.{Bool, true, false, cond}
+use mathlib.Core.Bool.{Bool, true, false, cond, _&&_}
 use mathlib.Core.List.{List}
 use native.Mathlib.Omega.{arith}
 use native.Mathlib.Nat.{pow-suc}
@@ -9,17 +9,17 @@ use native.Mathlib.Numerals.{add-one}
 use Rattle.bins.specs.CodeLaws.{bin-readable}
 use lib.ListN.{length, getD}
 use lib.Dec.{ltb, eqb}
-use borrow.Author.Tests.{lt-ltb, le-ltb, eq-eqb, ne-eqb}
+use borrow.Author.Tests.{lt-ltb, le-ltb, eq-eqb, ne-eqb, eqb-true}
 use Rattle.bins.specs.declared.state.Interval.{Interval}
 use Rattle.bins.specs.declared.state.Step.{Step}
 use Rattle.bins.specs.declared.state.Step.the-variants as step
 use Rattle.bins.specs.Engine.{bitNo}
-use Rattle.bins.specs.Tags.{tag, bypassNo, alignTag}
+use Rattle.bins.specs.Tags.{tag, bypassNo, alignTag, low, high, isEntry}
 use Rattle.bins.specs.Interval.{placeOf}
 use Rattle.bins.specs.Syn.{Took, took, refused, Out, onward, run, pickBin, binOf}
 use Rattle.bins.specs.Readers.{bitsS}
 use Rattle.bins.specs.Laws.{After, RefusedBy}
-use Rattle.bins.specs.Sources.{stepOf, stepOfBits, behind, entryBin, entryAlign, byEntries, entriesOn}
+use Rattle.bins.specs.Sources.{stepOf, stepOfBits, behind, entryBin, entryAlign, byEntries, entriesOn, Tagged}
 
 pub bit-small : (b : Bool) → bitNo b < 2
 bit-small true = omega arith
@@ -41,44 +41,61 @@ pub bits-refused : (o : Out Interval ℕ) (r : Step) (n : ℕ) → r ≡ stepOfB
 bits-refused (Out.ok w y) r n p q = let z : _≡_ {A = ℕ} 0 1 = cc in absurd (omega arith)
 bits-refused (Out.no m y) r n p q = let e : m ≡ n = cc in (y, ap (λ k. Out.no k y) e)
 
--- ---- one entry of a list, as the code looks at it: i is the place, y the interval behind the entry
+-- ---- one entry of a list, as the code looks at it: its two bytes as a number
+tagged-is : (l : List ℕ) (i t u : ℕ) → Tagged l i t → t ≡ u → isEntry (getD l i 0) (getD l (i + 1) 0) u ≡ true
+unfolding isEntry
+tagged-is l i t u h q =
+    rw (eq-eqb (getD l i 0) (low u) (omega (arith, h .is, h .lowByte)), eq-eqb (getD l (i + 1) 0) (high u) (omega (arith, h .is, h .lowByte)))
+
+tagged-not : (l : List ℕ) (i t u : ℕ) → Tagged l i t → (t ≡ u → ⊥) → isEntry (getD l i 0) (getD l (i + 1) 0) u ≡ false
+unfolding isEntry
+tagged-not l i t u h q = go (eqb (getD l i 0) (low u)) refl (eqb (getD l (i + 1) 0) (high u)) refl
+  where
+    go : (a : Bool) → eqb (getD l i 0) (low u) ≡ a → (b : Bool) → eqb (getD l (i + 1) 0) (high u) ≡ b → a && b ≡ false
+    go true e true f =
+        let v : getD l i 0 ≡ low u = eqb-true _ _ e in
+        let w : getD l (i + 1) 0 ≡ high u = eqb-true _ _ f in
+        absurd (q (omega (arith, h .is)))
+    go true e false f = refl
+    go false e b f = refl
+
+-- i is the place, t the tag that was found there, y the interval behind the entry
 module _ (l : List ℕ) (x : Interval) (i : ℕ) (at : i ≡ placeOf x) where
   module _ (c : ℕ) where
-    pub entry-zero : (y : Interval) → i < length l → getD l i 0 ≡ 2 * c → y ≡ behind x → step.Bin 0 y ≡ stepOf (entryBin l c x)
+    pub entry-zero : (t : ℕ) (y : Interval) → i + 1 < length l → Tagged l i t → t ≡ 2 * c → y ≡ behind x → step.Bin 0 y ≡ stepOf (entryBin l c x)
     unfolding entryBin binOf pickBin
-    entry-zero y h q e =
-        rw (lt-ltb (placeOf x) (length l) (rw at at h), eq-eqb (getD l (placeOf x) 0) (2 * c + 0) (rw at at q ∙ omega arith)) (ap (step.Bin 0) e)
+    entry-zero t y h g q e =
+        rw (lt-ltb (placeOf x + 1) (length l) (rw at at h), tagged-is l (placeOf x) t (2 * c + 0) (rw at at g) (omega arith)) (ap (step.Bin 0) e)
 
-    pub entry-one : (y : Interval) → i < length l → getD l i 0 ≡ 2 * c + 1 → y ≡ behind x → step.Bin 1 y ≡ stepOf (entryBin l c x)
+    pub entry-one : (t : ℕ) (y : Interval) → i + 1 < length l → Tagged l i t → t ≡ 2 * c + 1 → y ≡ behind x → step.Bin 1 y ≡ stepOf (entryBin l c x)
     unfolding entryBin binOf pickBin
-    entry-one y h q e =
-        let p : getD l (placeOf x) 0 ≡ 2 * c + 1 = rw at at q in
-        rw (lt-ltb (placeOf x) (length l) (rw at at h), ne-eqb (getD l (placeOf x) 0) (2 * c + 0) (λ z. omega arith), eq-eqb (getD l (placeOf x) 0) (2 * c + 1) p)
+    entry-one t y h g q e =
+        let k : Tagged l (placeOf x) t = rw at at g in
+        rw (lt-ltb (placeOf x + 1) (length l) (rw at at h), tagged-not l (placeOf x) t (2 * c + 0) k (λ z. omega arith), tagged-is l (placeOf x) t (2 * c + 1) k q)
         (ap (step.Bin 1) e)
 
-    pub entry-other : i < length l → (getD l i 0 ≡ 2 * c → ⊥) → (getD l i 0 ≡ 2 * c + 1 → ⊥) → step.Refused 13 ≡ stepOf (entryBin l c x)
+    pub entry-other : (t : ℕ) → i + 1 < length l → Tagged l i t → (t ≡ 2 * c → ⊥) → (t ≡ 2 * c + 1 → ⊥) → step.Refused 13 ≡ stepOf (entryBin l c x)
     unfolding entryBin binOf pickBin
-    entry-other h p q =
-        let p′ : getD l (placeOf x) 0 ≡ 2 * c → ⊥ = rw at at p in
-        let q′ : getD l (placeOf x) 0 ≡ 2 * c + 1 → ⊥ = rw at at q in
-        rw (lt-ltb (placeOf x) (length l) (rw at at h), ne-eqb (getD l (placeOf x) 0) (2 * c + 0) (λ z. p′ (omega arith)), ne-eqb (getD l (placeOf x) 0) (2 * c + 1) q′)
+    entry-other t h g p q =
+        let k : Tagged l (placeOf x) t = rw at at g in
+        rw (lt-ltb (placeOf x + 1) (length l) (rw at at h), tagged-not l (placeOf x) t (2 * c + 0) k (λ z. p (omega arith)), tagged-not l (placeOf x) t (2 * c + 1) k q)
 
-    pub entry-none : length l ≤ i → step.Refused 13 ≡ stepOf (entryBin l c x)
+    pub entry-none : length l ≤ i + 1 → step.Refused 13 ≡ stepOf (entryBin l c x)
     unfolding entryBin
-    entry-none h = rw (le-ltb (placeOf x) (length l) (rw at at h))
+    entry-none h = rw (le-ltb (placeOf x + 1) (length l) (rw at at h))
 
-  pub align-entry : (y : Interval) → i < length l → getD l i 0 ≡ alignTag → y ≡ behind x → step.Bin 0 y ≡ stepOf (entryAlign l x)
+  pub align-entry : (t : ℕ) (y : Interval) → i + 1 < length l → Tagged l i t → t ≡ alignTag → y ≡ behind x → step.Bin 0 y ≡ stepOf (entryAlign l x)
   unfolding entryAlign
-  align-entry y h q e =
-      rw (lt-ltb (placeOf x) (length l) (rw at at h), eq-eqb (getD l (placeOf x) 0) alignTag (rw at at q)) (ap (step.Bin 0) e)
+  align-entry t y h g q e =
+      rw (lt-ltb (placeOf x + 1) (length l) (rw at at h), tagged-is l (placeOf x) t alignTag (rw at at g) q) (ap (step.Bin 0) e)
 
-  pub align-other : i < length l → (getD l i 0 ≡ alignTag → ⊥) → step.Refused 13 ≡ stepOf (entryAlign l x)
+  pub align-other : (t : ℕ) → i + 1 < length l → Tagged l i t → (t ≡ alignTag → ⊥) → step.Refused 13 ≡ stepOf (entryAlign l x)
   unfolding entryAlign
-  align-other h p = rw (lt-ltb (placeOf x) (length l) (rw at at h), ne-eqb (getD l (placeOf x) 0) alignTag (rw at at p))
+  align-other t h g p = rw (lt-ltb (placeOf x + 1) (length l) (rw at at h), tagged-not l (placeOf x) t alignTag (rw at at g) p)
 
-  pub align-none : length l ≤ i → step.Refused 13 ≡ stepOf (entryAlign l x)
+  pub align-none : length l ≤ i + 1 → step.Refused 13 ≡ stepOf (entryAlign l x)
   unfolding entryAlign
-  align-none h = rw (le-ltb (placeOf x) (length l) (rw at at h))
+  align-none h = rw (le-ltb (placeOf x + 1) (length l) (rw at at h))
 
 -- a list refuses by 13 alone
 is-13 : (b : Bool) (t : Took Interval) (n : ℕ) → ((m : ℕ) → t ≡ refused m → m ≡ 13) → cond b t (refused 13) ≡ refused n → n ≡ 13
@@ -94,8 +111,8 @@ pick-13 false false x n q = cc
 pub entry-13 : (l : List ℕ) (c : ℕ) (x : Interval) (n : ℕ) → entryBin l c x ≡ refused n → n ≡ 13
 unfolding entryBin binOf
 entry-13 l c x n q =
-    is-13 (ltb (placeOf x) (length l)) (binOf c (getD l (placeOf x) 0) (refused 13) (λ b. took b (behind x))) n
-    (λ m r. pick-13 (eqb (getD l (placeOf x) 0) (tag c false)) (eqb (getD l (placeOf x) 0) (tag c true)) (behind x) m r) q
+    is-13 (ltb (placeOf x + 1) (length l)) (binOf c (getD l (placeOf x) 0) (getD l (placeOf x + 1) 0) (refused 13) (λ b. took b (behind x))) n
+    (λ m r. pick-13 (isEntry (getD l (placeOf x) 0) (getD l (placeOf x + 1) 0) (tag c false)) (isEntry (getD l (placeOf x) 0) (getD l (placeOf x + 1) 0) (tag c true)) (behind x) m r) q
 
 -- ---- several entries: what is left to read, as the loop has it
 module _ (l : List ℕ) (n i v : ℕ) (x y : Interval) where

@@ -3,10 +3,10 @@ use Prim.Native.Nat.{ℕ, _+_, _*_, _≤_}
 use mathlib.Core.List.{List, [], _∷_}
 use mathlib.Core.Bool.{Bool, true, false, cond}
 use lib.ListN.{getD, set}
-use lib.Dec.{ltb, leb, eqb}
+use lib.Dec.{ltb, leb}
 use Rattle.bins.specs.declared.state.Engine.{Engine}
 use Rattle.bins.specs.Engine.{decided, bypassed, rangeAligned}
-use Rattle.bins.specs.Tags.{tag, bypassNo, alignTag}
+use Rattle.bins.specs.Tags.{tag, bypassNo, alignTag, entry, isEntry}
 
 -- A is what is read, B what a writer wants read: with each bin stands what it is where B is written.
 pub data Syn (B A : Type 0) : Type 0 where
@@ -79,25 +79,27 @@ unfoldable pub byEngine : List ℕ → Source Reading
 unfolding engineBin engineBypass engineAlign
 byEngine l = record { onBin = engineBin l; onBypass = engineBypass l; onAlign = engineAlign }
 
--- ---- a bin list (the bin reader); what is left of it is the state. Ended early, or another tag: 13
+-- ---- a bin list (the bin reader); what is left of it is the state. Ended early, be it behind one byte of an entry, or another tag: 13
 unfoldable pub pickBin : {A : Type 0} → Bool → Bool → A → (Bool → A) → A
 pickBin true o none k = k false
 pickBin false true none k = k true
 pickBin false false none k = none
 
--- the bin of entry x, if it is one of context c's
-unfoldable pub binOf : {A : Type 0} → ℕ → ℕ → A → (Bool → A) → A
+-- the bin of the entry of bytes x and y, if it is one of context c's
+unfoldable pub binOf : {A : Type 0} → ℕ → ℕ → ℕ → A → (Bool → A) → A
 unfolding pickBin
-binOf c x none k = pickBin (eqb x (tag c false)) (eqb x (tag c true)) none k
+binOf c x y none k = pickBin (isEntry x y (tag c false)) (isEntry x y (tag c true)) none k
 
 unfoldable pub listBin : ℕ → List ℕ → Took (List ℕ)
 unfolding binOf
 listBin c [] = refused 13
-listBin c (x ∷ l) = binOf c x (refused 13) (λ b. took b l)
+listBin c (x ∷ []) = refused 13
+listBin c (x ∷ y ∷ l) = binOf c x y (refused 13) (λ b. took b l)
 
 unfoldable pub listAlign : List ℕ → Took (List ℕ)
 listAlign [] = refused 13
-listAlign (x ∷ l) = cond (eqb x alignTag) (took false l) (refused 13)
+listAlign (x ∷ []) = refused 13
+listAlign (x ∷ y ∷ l) = cond (isEntry x y alignTag) (took false l) (refused 13)
 
 unfoldable pub byList : Source (List ℕ)
 unfolding listBin listAlign
@@ -109,8 +111,8 @@ pub data Written (A : Type 0) : Type 0 where
   no : ℕ → Written A
 
 unfoldable pub also : {A : Type 0} → ℕ → Written A → Written A
-also x (ok a l) = ok a (x ∷ l)
-also x (no r) = no r
+also t (ok a l) = ok a (entry t l)
+also t (no r) = no r
 
 unfoldable pub write : {B A : Type 0} → Syn B A → B → Written A
 unfolding also

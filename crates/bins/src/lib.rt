@@ -6,4 +6,5 @@ pub mod list; // list.rt: the steps from a bin list
 pub mod payload; // payload.rt: the steps by the arithmetic engine
 pub mod places; // places.rt: byte places and bit places
 pub mod state; // state.rt: the engine's state
+pub mod tags; // tags.rt: how many contexts, and the entries behind theirs
 pub mod steps; // steps.rt: a step from whichever source a reader reads

@@ -1,15 +1,17 @@
-// The same steps from a bin list. A place in a list counts its entries; an entry is a byte.
+// The same steps from a bin list. A place in a list counts its bytes; an entry is two, the low one first.
 use crate::places::BitPlace;
 use crate::places::BytePlace;
 use crate::state::Interval;
 use crate::state::Step;
+use crate::tags::ALIGNMENT;
+use crate::tags::BYPASS;
 ghost use mathlib.Core.Path.{_≡_};
-ghost use Prim.Native.Nat.{_≤_, _<_};
+ghost use Prim.Native.Nat.{_+_, _≤_, _<_};
 ghost use lib.ListN.{length};
 ghost use Rattle.bins.specs.Interval.{placeOf};
-ghost use Rattle.bins.specs.Sources.{behind, stepOf, stepOfBits, entryBin, entryAlign, entriesOn};
+ghost use Rattle.bins.specs.Sources.{Tagged, behind, stepOf, stepOfBits, entryBin, entryAlign, entriesOn};
 
-// The fetch: the byte that an entry is.
+// The fetch: the first byte of an entry.
 fn entry_at(at: BitPlace) -> BytePlace
     ensures { λ r. ⌜ r .0 ≡ at .0 ⌝ }
 {
@@ -23,20 +25,30 @@ fn next_entry(x: Interval) -> Interval
     Interval {
         range: x.range,
         offset: x.offset,
-        at: BitPlace(x.at.0 + 1),
+        at: BitPlace(x.at.0 + 2),
     }
+}
+
+// An entry's two bytes as a number.
+fn tag_at(bytes: &[u8], i: usize) -> u32
+    requires { ⌜ i + 1 < length (now bytes) ⌝ }
+    ensures { λ r. ⌜ Tagged (now (bytes .entry)) i r ⌝ }
+{
+    let low = bytes[i] as u32;
+    let high = bytes[i + 1] as u32;
+    low + 256 * high
 }
 
 // A bin with the context of a number; bypass stands as one more number.
 pub fn bin(bytes: &[u8], number: u32, x: Interval) -> Step
-    requires { ⌜ (placeOf x ≤ length (now bytes)) × (number < 128) ⌝ }
+    requires { ⌜ (placeOf x ≤ length (now bytes)) × (number < 32768) ⌝ }
     ensures { λ r. ⌜ r ≡ stepOf (entryBin (now (bytes .entry)) number x) ⌝ }
 {
     let at = x.at;
     let place = entry_at(at);
     let i = place.0;
-    if i < bytes.len() {
-        let entry = bytes[i] as u32;
+    if i + 1 < bytes.len() {
+        let entry = tag_at(bytes, i);
         if entry == 2 * number {
             let next = next_entry(x);
             return Step::Bin(0, next);
@@ -56,8 +68,9 @@ pub fn align(bytes: &[u8], x: Interval) -> Step
     let at = x.at;
     let place = entry_at(at);
     let i = place.0;
-    if i < bytes.len() {
-        if bytes[i] == 242 {
+    if i + 1 < bytes.len() {
+        let entry = tag_at(bytes, i);
+        if entry == ALIGNMENT {
             let next = next_entry(x);
             return Step::Bin(0, next);
         }
@@ -74,7 +87,7 @@ pub fn bypass_bits(bytes: &[u8], x: Interval, n: u32) -> Step
     let mut v: u32 = 0;
     let mut i: u32 = 0;
     while i < n {
-        let Step::Bin(b, next) = bin(bytes, 120, y) else {
+        let Step::Bin(b, next) = bin(bytes, BYPASS, y) else {
             return Step::Refused(13);
         };
         v = v * 2 + b;

@@ -5,6 +5,7 @@ use crate::payload;
 use crate::state::Interval;
 use crate::state::Step;
 use crate::state::Taken;
+use crate::tags::BYPASS;
 ghost use mathlib.Core.Path.{_≡_};
 ghost use Prim.Native.Nat.{_≤_, _<_};
 ghost use Rattle.tables.specs.Decisions.{decisions};
@@ -26,7 +27,7 @@ pub fn decode_bin(
     bytes: &[u8],
     x: Interval,
 ) -> Step
-    requires { ⌜ Readable list (now bytes) x × (now c < 128) × (number < 128) × (now table ≡ decisions) ⌝ }
+    requires { ⌜ Readable list (now bytes) x × (now c < 128) × (number < 32768) × (now table ≡ decisions) ⌝ }
     ensures { λ r. ⌜ (r ≡ stepOf (binFrom list (now (bytes .entry)) number (now (c .entry)) x)) × (now (c .exit) ≡ contextFrom list (now (bytes .entry)) (now (c .entry)) x) ⌝ }
 {
     if list {
@@ -41,7 +42,7 @@ pub fn decode_bypass(list: bool, bytes: &[u8], x: Interval) -> Step
     ensures { λ r. ⌜ r ≡ stepOf (bypassFrom list (now (bytes .entry)) x) ⌝ }
 {
     if list {
-        return list::bin(bytes, 120, x);
+        return list::bin(bytes, BYPASS, x);
     }
     let t = payload::bypass_one(bytes, x);
     step_of(t)

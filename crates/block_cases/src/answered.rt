@@ -9,6 +9,7 @@ use crate::given::PLACES;
 use crate::spelled::ROOM;
 use crate::spelled::put;
 use bins::state::Engine;
+use bins::tags::CONTEXTS;
 use reader::block::Found;
 use reader::entries::Read;
 use reader::entries::ReadList;
@@ -222,7 +223,12 @@ fn change(
     pair(out, k, place, value as i32)
 }
 
-pub fn contexts(out: &mut [u8; ROOM], at: usize, before: &[u8; 120], after: &[u8; 120]) -> usize {
+pub fn contexts(
+    out: &mut [u8; ROOM],
+    at: usize,
+    before: &[u8; CONTEXTS],
+    after: &[u8; CONTEXTS],
+) -> usize {
     changes(out, at, b", contexts", before, after)
 }
 

@@ -9,7 +9,7 @@ pub fn cases(t: Tally) -> Tally {
     alignments(t)
 }
 
-// The list ends early, has another tag, or has bins left over.
+// The list ends early, be it in the middle of an entry, has another tag, or has bins left over. An 8 that is met first stays 8.
 fn thirteens(t: Tally) -> Tally {
     let p = plain();
     let l = usual();
@@ -21,14 +21,22 @@ fn thirteens(t: Tally) -> Tally {
 no bins||number 13, block zero
 one bin|0|number 13, block zero
 the last sign missing|0 36 170|number 13, block zero
-a bin left over|0 36 170 240 240|number 13, block zero
-alignment left over|0 36 170 240 242|number 13, block zero
-context 1 for 0|2 36 170 240|number 13, block zero
-context 120 for 0|240 36 170 240|number 13, block zero
+a bin left over|0 36 170 260 260|number 13, block zero
+alignment left over|0 36 170 260 262|number 13, block zero
+context 1 for 0|2 36 170 260|number 13, block zero
+bypass for context 0|260 36 170 260|number 13, block zero
+context 120 for 0|240 36 170 260|number 13, block zero
+context 129 for 0|259 36 170 260|number 13, block zero
+256 for 0|256 36 170 260|number 13, block zero
 a context for a bypass bin|0 36 170 0|number 13, block zero
-242 for a bypass bin|0 36 170 242|number 13, block zero
-243 for a bypass bin|0 36 170 243|number 13, block zero
+262 for a bypass bin|0 36 170 262|number 13, block zero
+263 for a bypass bin|0 36 170 263|number 13, block zero
 255 for a bypass bin|0 36 170 255|number 13, block zero
+4 for a bypass bin|0 36 170 4|number 13, block zero
+one byte left over|0 36 170 260 .|number 13, block zero
+one byte of a bin|0 36 170 .|number 13, block zero
+35 ones, then one byte|0 36 171 217 b011111111111111111111111111111111111 .|number 8, block zero
+34 ones, then one byte|0 36 171 217 b01111111111111111111111111111111111 .|number 13, block zero
 ",
     )
 }
@@ -45,14 +53,14 @@ fn alignments(t: Tally) -> Tally {
         b"
 alignment, level 1|0 36 170 b0|extents 0 0, greatest 1, levels 0:1
 alignment, level 2|0 36 171 216 b0|extents 0 0, greatest 2, levels 0:2
-alignment, level 3|0 36 171 217 242 b0 b0|extents 0 0, greatest 3, levels 0:3
-alignment, levels 2 and 2|1 2 36 76 73 171 169 216 242 b00 b0|extents 1 0, greatest 2, levels 0:2 1:2
+alignment, level 3|0 36 171 217 262 b0 b0|extents 0 0, greatest 3, levels 0:3
+alignment, levels 2 and 2|1 2 36 76 73 171 169 216 262 b00 b0|extents 1 0, greatest 2, levels 0:2 1:2
 alignment, eight levels of 1|1 2 37 39 40 87 81 79 85 75 77 73 170 172 174 174 174 174 174 174 b00000000|\
     extents 2 3, greatest 1, levels 0:1 1:1 2:1 4:1 5:1 8:1 9:1 12:1
-alignment, nine levels of 1|1 3 4 37 38 85 87 81 79 85 75 77 73 170 172 174 174 174 174 174 174 242 b000000000 b0|\
+alignment, nine levels of 1|1 3 4 37 38 85 87 81 79 85 75 77 73 170 172 174 174 174 174 174 174 262 b000000000 b0|\
     extents 2 3, greatest 1, levels 0:1 1:1 2:1 4:1 5:1 6:1 8:1 9:1 12:1
 alignment missing|0 36 171 217 b0 b0|number 13, block zero
-alignment without escape data|0 36 170 242 240|number 13, block zero
+alignment without escape data|0 36 170 262 260|number 13, block zero
 ",
     );
     p.aligning = false;
@@ -60,6 +68,6 @@ alignment without escape data|0 36 170 242 240|number 13, block zero
         t,
         p,
         l,
-        b"alignment not enabled, level 3|0 36 171 217 242 b0 b0|number 13, block zero",
+        b"alignment not enabled, level 3|0 36 171 217 262 b0 b0|number 13, block zero",
     )
 }

@@ -19,8 +19,8 @@ fn document(t: Tally) -> Tally {
         p,
         l,
         b"
-level 1 at (0,0)|0 36 170 240|extents 0 0, greatest 1, levels 0:1
-level 1 at (1,0) and (0,1)|1 2 36 77 72 170 172 240 240|extents 1 1, greatest 1, levels 1:1 4:1
+level 1 at (0,0)|0 36 170 260|extents 0 0, greatest 1, levels 0:1
+level 1 at (1,0) and (0,1)|1 2 36 77 72 170 172 260 260|extents 1 1, greatest 1, levels 1:1 4:1
 level 32767|0 36 171 217 b0 b1111 b11111111111110 b11111111111010|extents 0 0, greatest 32767, levels 0:32767
 level 32768|0 36 171 217 b0 b1111 b11111111111110 b11111111111011|number 8, block zero
 level -32768|0 36 171 217 b1 b1111 b11111111111110 b11111111111011|extents 0 0, greatest 32768, levels 0:-32768

@@ -22,14 +22,14 @@ fn limits(t: Tally) -> Tally {
         t,
         p,
         l,
-        b"bins, log2 1|0 36 170 240|number 4, block untouched",
+        b"bins, log2 1|0 36 170 260|number 4, block untouched",
     );
     p.log2 = 6;
     let t = lists(
         t,
         p,
         l,
-        b"bins, log2 6|0 36 170 240|number 4, block untouched",
+        b"bins, log2 6|0 36 170 260|number 4, block untouched",
     );
     p.log2 = 2;
     p.scan = 3;
@@ -37,7 +37,7 @@ fn limits(t: Tally) -> Tally {
         t,
         p,
         l,
-        b"bins, scan 3|0 36 170 240|number 4, block untouched",
+        b"bins, scan 3|0 36 170 260|number 4, block untouched",
     );
     p.scan = 0;
     p.depth = 7;
@@ -45,21 +45,21 @@ fn limits(t: Tally) -> Tally {
         t,
         p,
         l,
-        b"bins, depth 7|0 36 170 240|number 4, block untouched",
+        b"bins, depth 7|0 36 170 260|number 4, block untouched",
     );
     p.depth = 17;
     let t = lists(
         t,
         p,
         l,
-        b"bins, depth 17|0 36 170 240|number 4, block untouched",
+        b"bins, depth 17|0 36 170 260|number 4, block untouched",
     );
     p.depth = 16;
     lists(
         t,
         p,
         l,
-        b"bins, depth 16|0 36 170 240|extents 0 0, greatest 1, levels 0:1",
+        b"bins, depth 16|0 36 170 260|extents 0 0, greatest 1, levels 0:1",
     )
 }
 
@@ -70,27 +70,27 @@ fn short_blocks(t: Tally) -> Tally {
         t,
         p,
         with_places(15),
-        b"bins, 15 places|0 36 170 240|number 4, block untouched",
+        b"bins, 15 places|0 36 170 260|number 4, block untouched",
     );
     let t = lists(
         t,
         p,
         with_places(16),
-        b"bins, 16 places|0 36 170 240|extents 0 0, greatest 1, levels 0:1",
+        b"bins, 16 places|0 36 170 260|extents 0 0, greatest 1, levels 0:1",
     );
     p.log2 = 3;
     let t = lists(
         t,
         p,
         with_places(63),
-        b"bins, 8x8, 63 places|6 42 72 170 240|number 4, block untouched",
+        b"bins, 8x8, 63 places|6 42 72 170 260|number 4, block untouched",
     );
     p.log2 = 5;
     let t = lists(
         t,
         p,
         with_places(1023),
-        b"bins, 32x32, 1023 places|20 56 72 170 240|number 4, block untouched",
+        b"bins, 32x32, 1023 places|20 56 72 170 260|number 4, block untouched",
     );
     lists(
         t,
@@ -107,27 +107,27 @@ fn statistics(t: Tally) -> Tally {
         t,
         p,
         with_statistics([0, 0, 0, 85]),
-        b"bins, statistic 85|0 36 170 240|number 3, block untouched",
+        b"bins, statistic 85|0 36 170 260|number 3, block untouched",
     );
     let t = lists(
         t,
         p,
         with_statistics([85, 0, 0, 0]),
-        b"bins, first statistic 85|0 36 170 240|number 3, block untouched",
+        b"bins, first statistic 85|0 36 170 260|number 3, block untouched",
     );
     p.persistent = true;
     let t = lists(
         t,
         p,
         with_statistics([0, 255, 0, 0]),
-        b"bins, statistic 255, persistent|0 36 170 240|number 3, block untouched",
+        b"bins, statistic 255, persistent|0 36 170 260|number 3, block untouched",
     );
     p.persistent = false;
     lists(
         t,
         p,
         with_statistics([84; 4]),
-        b"bins, statistics 84|0 36 170 240|extents 0 0, greatest 1, levels 0:1",
+        b"bins, statistics 84|0 36 170 260|extents 0 0, greatest 1, levels 0:1",
     )
 }
 
@@ -140,7 +140,7 @@ fn order(t: Tally) -> Tally {
         p,
         with_statistics([0, 0, 0, 85]),
         b"
-bins, 4 before 3|0 36 170 240|number 4, block untouched
+bins, 4 before 3|0 36 170 260|number 4, block untouched
 bins, 4 before 3 and 13||number 4, block untouched
 bins, 4 before 3 and 8|0 36 171 217 b0 b1111 b11111111111110 b11111111111011|number 4, block untouched
 ",

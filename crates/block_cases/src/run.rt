@@ -11,6 +11,7 @@ use crate::given::state;
 use crate::spelled;
 use crate::spelled::ROOM;
 use bins::state::Engine;
+use bins::tags::CONTEXTS;
 use bytes::scan::find;
 use cabac::engine::State;
 use cabac::engine::start;
@@ -69,7 +70,7 @@ fn list(t: Tally, p: Params, l: Lent, case: &[u8]) -> Tally {
 fn payload_into(
     bytes: &[u8],
     e: Engine,
-    contexts: &mut [u8; 120],
+    contexts: &mut [u8; CONTEXTS],
     statistics: &mut [u8; 4],
     p: Params,
     block: &mut [i32],
@@ -81,9 +82,12 @@ fn payload_into(
     residual_coding(bytes, e, contexts, statistics, p, block)
 }
 
-fn contexts_of(last: u8) -> [u8; 120] {
-    let mut contexts = [CONTEXT; 120];
-    contexts[119] = last;
+// The context that a case sets: of the direction of explicit RDPCM, chroma's.
+const SET: usize = 119;
+
+fn contexts_of(last: u8) -> [u8; CONTEXTS] {
+    let mut contexts = [CONTEXT; CONTEXTS];
+    contexts[SET] = last;
     contexts
 }
 

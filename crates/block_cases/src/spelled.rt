@@ -1,12 +1,18 @@
 // The parts of a case, and the bins of a list.
+use bins::tags::BYPASS;
 use bytes::scan::find;
 use report::fields::Number;
 use report::fields::decimal;
 use report::fields::field;
 use report::lines::part;
 
-// How many letters an answer, and how many entries a list has at most.
-pub const ROOM: usize = 512;
+// How many letters an answer, and how many bytes a list has at most.
+pub const ROOM: usize = 1024;
+
+// The entries of a bypass bin.
+pub const BYPASS_0: u32 = 2 * BYPASS;
+
+pub const BYPASS_1: u32 = 2 * BYPASS + 1;
 
 pub fn name(s: &[u8]) -> &[u8] {
     part(s, 0, find(s, 0, s.len(), b'|'))
@@ -46,10 +52,16 @@ pub fn put(out: &mut [u8; ROOM], at: usize, b: u8) -> usize {
     at
 }
 
+// An entry is two bytes, the low one first.
+fn put_entry(out: &mut [u8; ROOM], at: usize, e: u32) -> usize {
+    let k = put(out, at, (e % 256) as u8);
+    put(out, k, (e / 256 % 256) as u8)
+}
+
 fn put_bypass(out: &mut [u8; ROOM], at: usize, b: u8) -> usize {
     match b {
-        b'0' => put(out, at, 240),
-        b'1' => put(out, at, 241),
+        b'0' => put_entry(out, at, BYPASS_0),
+        b'1' => put_entry(out, at, BYPASS_1),
         _ => at,
     }
 }
@@ -64,12 +76,12 @@ fn put_bypass_bins(s: &[u8], out: &mut [u8; ROOM], at: usize) -> usize {
     k
 }
 
-// What is no number of a byte is an entry that nothing reads.
-fn entry(s: &[u8]) -> u8 {
+// What is no number of two bytes is an entry that nothing reads.
+fn entry(s: &[u8]) -> u32 {
     let Number::Is(n) = decimal(s) else {
-        return 255;
+        return 65535;
     };
-    if n < 256 { n as u8 } else { 255 }
+    if n < 65536 { n as u32 } else { 65535 }
 }
 
 fn put_field(s: &[u8], out: &mut [u8; ROOM], at: usize) -> usize {
@@ -79,10 +91,13 @@ fn put_field(s: &[u8], out: &mut [u8; ROOM], at: usize) -> usize {
     if s[0] == b'b' {
         return put_bypass_bins(s, out, at);
     }
-    put(out, at, entry(s))
+    if s[0] == b'.' {
+        return put(out, at, 0);
+    }
+    put_entry(out, at, entry(s))
 }
 
-// The entries of a list as document 01 writes them, by number; b and binary digits are bypass bins. Answers how many there are.
+// The entries of a list by their numbers; b and binary digits are bypass bins, a point is one byte 0. Answers how many bytes there are.
 pub fn bins(s: &[u8], out: &mut [u8; ROOM]) -> usize {
     let mut at: usize = 0;
     let mut k: usize = 0;

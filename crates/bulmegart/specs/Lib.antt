@@ -3,3 +3,4 @@ pub mod Exported
 pub mod Blocks
 pub mod Laws
 pub mod Lists
+pub mod Scales

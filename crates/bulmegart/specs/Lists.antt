@@ -13,8 +13,7 @@ use Rattle.residual.specs.declared.params.Rdpcm.{Rdpcm}
 use Rattle.residual.specs.declared.params.Rdpcm.the-variants as rdpcm
 use Rattle.residual.specs.Entries.{BinsWritten, writeBins}
 use Rattle.writer.specs.declared.entries.Written.{Written}
-use Rattle.writer.specs.declared.entries.Written.the-variants as written
-use Rattle.writer.specs.EntriesPuts.{binsWritten}
+use Rattle.writer.specs.EntriesPuts.{writtenSays, binsWritten}
 use Rattle.bulmegart.specs.declared.handed.BlockParams.{BlockParams}
 use Rattle.bulmegart.specs.declared.lists.WriteAnswer.{WriteAnswer}
 use Rattle.bulmegart.specs.Handed.{flagRefusal, paramsFlags, paramsOf, isSet}
@@ -28,11 +27,7 @@ choiceOf zero = rdpcm.None
 choiceOf (suc zero) = rdpcm.Horizontal
 choiceOf (suc (suc n)) = rdpcm.Vertical
 
--- ---- what the writer's answer says, and the same as C has it
-abbrev pub writtenSays : Written → Answer ℕ
-writtenSays (written.List n) = accepted n
-writtenSays (written.Refused n) = refused n
-
+-- ---- the writer's answer as C has it
 abbrev pub writeGiven : Answer ℕ → WriteAnswer
 writeGiven (accepted n) = record { number = 0; length = n }
 writeGiven (refused n) = record { number = n; length = 0 }
@@ -77,10 +72,6 @@ choice-two zero h k = absurd (h refl)
 choice-two (suc zero) h k = absurd (k refl)
 choice-two (suc (suc n)) h k = refl
 
-written-seen : (r : Written) (stats room : List ℕ) → writeSeen (binsWritten r stats room) ≡ writeLeft (writeGiven (writtenSays r)) stats room
-written-seen (written.List n) stats room = refl
-written-seen (written.Refused n) stats room = refl
-
 module _ (p : BlockParams) (stats : List ℕ) (block : List ℤ) (skip choice : ℕ) (room : List ℕ) where
   pub write-no : (n : ℕ) (a : WriteAnswer) → n ≡ (paramsFlags p orElse flagRefusal skip orElse choiceRefusal choice) → (n ≡ 0 → ⊥)
       → a ≡ writeGiven (refused n) → writeLeft a stats room ≡ writeBlock p stats block skip choice room
@@ -101,5 +92,5 @@ module _ (p : BlockParams) (stats : List ℕ) (block : List ℤ) (skip choice : 
       let same : writeBins q stats block s c room ≡ writeBins (paramsOf p) stats block (isSet skip) (choiceOf choice) room =
       ap (λ (u : Params). writeBins u stats block s c room) eq ∙ ap (λ (u : Bool). writeBins (paramsOf p) stats block u c room) es
       ∙ ap (λ (u : Rdpcm). writeBins (paramsOf p) stats block (isSet skip) u room) ec in
-      ap (λ u. writeLeft u stats′ room′) ea ∙ sym (written-seen r stats′ room′) ∙ ap writeSeen (promise ∙ same)
+      ap (λ u. writeLeft u stats′ room′) ea ∙ ap writeSeen (promise ∙ same)
       ∙ ap (λ k. writeBlockBy k p stats block skip choice room) o

@@ -8,6 +8,7 @@ use crate::handed::params_flags;
 use crate::handed::params_of;
 use crate::handed::rdpcm_number;
 use crate::handed::state_of;
+use bins::tags::CONTEXTS;
 use reader::block::Found;
 use reader::entries::Read;
 use reader::entries::ReadList;
@@ -102,7 +103,7 @@ fn list_answer(r: ReadList) -> ListAnswer
 pub extern "C" fn bulmegart_read_block(
     payload: &[u8],
     state: EngineState,
-    contexts: &mut [u8; 120],
+    contexts: &mut [u8; CONTEXTS],
     statistics: &mut [u8; 4],
     params: BlockParams,
     levels: &mut [i32],

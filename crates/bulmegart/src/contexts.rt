@@ -1,4 +1,5 @@
 // Initialisation of contexts.
+use bins::tags::CONTEXTS;
 use cabac::contexts::init;
 use cabac::contexts::init_contexts;
 ghost use mathlib.Core.Path.{_≡_};
@@ -16,7 +17,7 @@ pub extern "C" fn bulmegart_init(value: u8, qp: u8) -> u8
 // The lent contexts from the lent values; the statistics become 0.
 #[no_mangle]
 pub extern "C" fn bulmegart_init_contexts(
-    contexts: &mut [u8; 120],
+    contexts: &mut [u8; CONTEXTS],
     statistics: &mut [u8; 4],
     values: &[u8],
     qp: u8,

@@ -11,7 +11,8 @@ use writer::entries::write_bins;
 ghost use mathlib.Core.Path.{_≡_};
 ghost use Rattle.cabac.specs.Numbers.{_orElse_};
 ghost use Rattle.bulmegart.specs.Handed.{flagRefusal, paramsFlags};
-ghost use Rattle.bulmegart.specs.Lists.{choiceRefusal, choiceOf, writtenSays, writeGiven, writeLeft, writeBlock};
+ghost use Rattle.writer.specs.EntriesPuts.{writtenSays};
+ghost use Rattle.bulmegart.specs.Lists.{choiceRefusal, choiceOf, writeGiven, writeLeft, writeBlock};
 
 // The list's length; 0 after a refusal.
 #[repr(C)]
@@ -49,7 +50,7 @@ fn write_handed(p: BlockParams, skip: u8, rdpcm: u8) -> u32
     )
 }
 
-fn write_answer(r: Written) -> WriteAnswer
+pub fn write_answer(r: Written) -> WriteAnswer
     ensures { λ a. ⌜ a ≡ writeGiven (writtenSays r) ⌝ }
 {
     match r {

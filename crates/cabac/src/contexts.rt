@@ -1,4 +1,5 @@
 // Contexts: from an initial value and a quantiser to a packed byte (H.265 9.3.2.2).
+use bins::tags::CONTEXTS;
 ghost use mathlib.Core.Path.{_≡_};
 ghost use Prim.Native.Nat.{_/_, _≤_, min};
 ghost use Rattle.cabac.specs.Contexts.{slopeRaised, held, packed, initial};
@@ -50,19 +51,19 @@ pub fn init(v: u8, q: u8) -> u8
 
 // The lent contexts from the lent values; the statistics start at 0. The number: 4 unless there is a value for each context.
 pub fn init_contexts(
-    contexts: &mut [u8; 120],
+    contexts: &mut [u8; CONTEXTS],
     statistics: &mut [u8; 4],
     values: &[u8],
     q: u8,
 ) -> u32
     ensures { λ r. ⌜ (r ≡ valuesRefusal (now (values .entry))) × (now (contexts .exit) ≡ contextsAfter r (now (contexts .entry)) (now (values .entry)) q) × (now (statistics .exit) ≡ statisticsAfter r (now (statistics .entry))) ⌝ }
 {
-    if values.len() != 120 {
+    if values.len() != CONTEXTS {
         return 4;
     }
-    let mut fresh = [0u8; 120];
+    let mut fresh = [0u8; CONTEXTS];
     let mut i: usize = 0;
-    while i < 120 {
+    while i < CONTEXTS {
         fresh[i] = init(values[i], q);
         i += 1;
     }

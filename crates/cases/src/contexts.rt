@@ -1,6 +1,7 @@
 // Initialisation: 4.
 use crate::tally::context;
 use crate::tally::lent;
+use bins::tags::CONTEXTS;
 use cabac::contexts::init;
 use cabac::contexts::init_contexts;
 use check::same;
@@ -47,21 +48,21 @@ fn held(t: Tally) -> Tally {
     context(t, b"init, 197 at 255", init(197, 255), 71)
 }
 
-fn hold(contexts: &[u8; 120], statistics: &[u8; 4], context: u8, statistic: u8) -> bool {
-    same(contexts, &[context; 120]) & same(statistics, &[statistic; 4])
+fn hold(contexts: &[u8; CONTEXTS], statistics: &[u8; 4], context: u8, statistic: u8) -> bool {
+    same(contexts, &[context; CONTEXTS]) & same(statistics, &[statistic; 4])
 }
 
 fn accepted(t: Tally) -> Tally {
-    let mut contexts = [7u8; 120];
+    let mut contexts = [7u8; CONTEXTS];
     let mut statistics = [9u8; 4];
-    let n = init_contexts(&mut contexts, &mut statistics, &[154u8; 120], 30);
+    let n = init_contexts(&mut contexts, &mut statistics, &[154u8; CONTEXTS], 30);
     let right = hold(&contexts, &statistics, 64, 0);
-    lent(t, b"initialisation, 120 values of 154", n, 0, right)
+    lent(t, b"initialisation, 130 values of 154", n, 0, right)
 }
 
 // Of what was lent nothing may change.
 fn untouched(t: Tally, name: &[u8], values: &[u8]) -> Tally {
-    let mut contexts = [7u8; 120];
+    let mut contexts = [7u8; CONTEXTS];
     let mut statistics = [9u8; 4];
     let n = init_contexts(&mut contexts, &mut statistics, values, 30);
     let right = hold(&contexts, &statistics, 7, 9);
@@ -70,6 +71,7 @@ fn untouched(t: Tally, name: &[u8], values: &[u8]) -> Tally {
 
 fn refused(t: Tally) -> Tally {
     let t = untouched(t, b"initialisation, no values", b"");
-    let t = untouched(t, b"initialisation, 119 values", &[154u8; 119]);
-    untouched(t, b"initialisation, 121 values", &[154u8; 121])
+    let t = untouched(t, b"initialisation, 120 values", &[154u8; CONTEXTS - 10]);
+    let t = untouched(t, b"initialisation, 129 values", &[154u8; CONTEXTS - 1]);
+    untouched(t, b"initialisation, 131 values", &[154u8; CONTEXTS + 1])
 }

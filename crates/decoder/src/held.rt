@@ -4,6 +4,7 @@ use crate::context;
 use crate::context::Bit;
 use crate::context::CtxModel;
 use bins::state::Engine;
+use bins::tags::CONTEXTS;
 use cabac::engine;
 use cabac::engine::Bins;
 use cabac::engine::State;
@@ -74,7 +75,7 @@ impl<'a> Decoder<'a> {
     // One block.
     pub fn residual_coding(
         self,
-        contexts: &mut [u8; 120],
+        contexts: &mut [u8; CONTEXTS],
         stats: &mut [u8; 4],
         p: Params,
         block: &mut [i32],
@@ -89,7 +90,7 @@ impl<'a> Decoder<'a> {
 pub fn block_through(
     payload: &[u8],
     state: Engine,
-    contexts: &mut [u8; 120],
+    contexts: &mut [u8; CONTEXTS],
     stats: &mut [u8; 4],
     p: Params,
     block: &mut [i32],

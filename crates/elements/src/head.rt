@@ -4,6 +4,7 @@ use crate::shapes::prefix;
 use bins::state::Interval;
 use bins::state::Step;
 use bins::steps::decode_bypass_bits;
+use bins::tags::CONTEXTS;
 use residual::params::Params;
 use residual::params::Rdpcm;
 ghost use mathlib.Core.Path.{_≡_};
@@ -62,7 +63,7 @@ fn rdpcm_of(flag: u32, dir: u32) -> Rdpcm
 fn last_prefix(
     list: bool,
     table: &[u32; 512],
-    contexts: &mut [u8; 120],
+    contexts: &mut [u8; CONTEXTS],
     first: usize,
     luma: bool,
     log2: u32,
@@ -137,7 +138,7 @@ pub fn refusal(s: Step) -> u32
 pub fn read_head(
     list: bool,
     table: &[u32; 512],
-    contexts: &mut [u8; 120],
+    contexts: &mut [u8; CONTEXTS],
     bytes: &[u8],
     p: Params,
     x: Interval,

@@ -3,6 +3,7 @@ use bins::state::Interval;
 use bins::state::Step;
 use bins::steps::decode_bin;
 use bins::steps::decode_bypass;
+use bins::tags::CONTEXTS;
 ghost use mathlib.Core.Path.{_≡_};
 ghost use mathlib.Core.Bool.{Bool};
 ghost use mathlib.Core.List.{List};
@@ -12,18 +13,19 @@ ghost use Rattle.bins.specs.Syn.{bin, done};
 ghost use Rattle.bins.specs.Readers.{flagIf, onesS, prefixS};
 ghost use Rattle.residual.specs.Wanted.{Wanted};
 ghost use Rattle.bins.specs.Sources.{Readable};
+ghost use Rattle.bins.specs.Tags.{contextCount};
 ghost use Rattle.elements.specs.Agree.{Reads, from, Says, SaysFlag};
 
 // A bin with the context of a number.
 pub fn context_bin(
     list: bool,
     table: &[u32; 512],
-    contexts: &mut [u8; 120],
+    contexts: &mut [u8; CONTEXTS],
     number: usize,
     bytes: &[u8],
     x: Interval,
 ) -> Step
-    requires { ⌜ Reads list (now bytes) x (now contexts) × (number < 120) × (now table ≡ decisions) ⌝ }
+    requires { ⌜ Reads list (now bytes) x (now contexts) × (number < contextCount) × (now table ≡ decisions) ⌝ }
     ensures { λ r. ⌜ ((w : Wanted → Bool) → SaysFlag r (now (contexts .exit)) (from list (now (bytes .entry)) (bin number w done) x (now (contexts .entry)))) ⌝ }
 {
     decode_bin(list, table, &mut contexts[number], number as u32, bytes, x)
@@ -34,12 +36,12 @@ pub fn flag_if(
     coded: bool,
     list: bool,
     table: &[u32; 512],
-    contexts: &mut [u8; 120],
+    contexts: &mut [u8; CONTEXTS],
     number: usize,
     bytes: &[u8],
     x: Interval,
 ) -> Step
-    requires { ⌜ Reads list (now bytes) x (now contexts) × (number < 120) × (now table ≡ decisions) ⌝ }
+    requires { ⌜ Reads list (now bytes) x (now contexts) × (number < contextCount) × (now table ≡ decisions) ⌝ }
     ensures { λ r. ⌜ ((w : Wanted → Bool) → SaysFlag r (now (contexts .exit)) (from list (now (bytes .entry)) (flagIf coded number w) x (now (contexts .entry)))) ⌝ }
 {
     if coded {
@@ -52,14 +54,14 @@ pub fn flag_if(
 pub fn prefix(
     list: bool,
     table: &[u32; 512],
-    contexts: &mut [u8; 120],
+    contexts: &mut [u8; CONTEXTS],
     base: usize,
     shift: u32,
     most: u32,
     bytes: &[u8],
     x: Interval,
 ) -> Step
-    requires { ⌜ Reads list (now bytes) x (now contexts) × (base + most ≤ 120) × (most ≤ 9) × (shift ≤ 3) × (now table ≡ decisions) ⌝ }
+    requires { ⌜ Reads list (now bytes) x (now contexts) × (base + most ≤ contextCount) × (most ≤ 9) × (shift ≤ 3) × (now table ≡ decisions) ⌝ }
     ensures { λ r. ⌜ ((w : ℕ → Wanted → Bool) → Says r (now (contexts .exit)) (from list (now (bytes .entry)) (prefixS base shift most 0 w) x (now (contexts .entry)))) ⌝ }
 {
     let mut y = x;

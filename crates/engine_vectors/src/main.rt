@@ -1,7 +1,7 @@
 // Answers records of real streams through the engine's entry points: a line of standard output for each line of input.
 // Fields are parted by one space; bytes are hexadecimal. tools/engine_vectors.py writes both files from the vectors.
 //
-//     I q values            the contexts of 120 initial values: the number, the contexts, the statistics
+//     I q values            the contexts of the initial values: the number, the contexts, the statistics
 //     S payload             the payload of the segments that follow: its length
 //     G contexts bins       a segment, by a start if it is the payload's first, else by a restart: see segment.rt
 //
@@ -11,6 +11,7 @@ mod steps; // steps.rt: the bins of a segment, each compared with the one that t
 
 use bins::places::BitPlace;
 use bins::state::Engine;
+use bins::tags::CONTEXTS;
 use cabac::contexts::init_contexts;
 use report::fields;
 use report::fields::Number;
@@ -52,7 +53,7 @@ fn fresh(length: usize) -> Slice {
 }
 
 fn initialised(values: &[u8], q: u8) {
-    let mut contexts = [0u8; 120];
+    let mut contexts = [0u8; CONTEXTS];
     let mut statistics = [255u8; 4];
     let n = init_contexts(&mut contexts, &mut statistics, values, q);
     write::text(b"init ");
@@ -60,7 +61,7 @@ fn initialised(values: &[u8], q: u8) {
     shown(&contexts, &statistics);
 }
 
-fn shown(contexts: &[u8; 120], statistics: &[u8; 4]) {
+fn shown(contexts: &[u8; CONTEXTS], statistics: &[u8; 4]) {
     write::text(b" ");
     write::hex_bytes(contexts);
     write::text(b" ");
@@ -76,7 +77,7 @@ fn quantiser(s: &[u8]) -> u8 {
 }
 
 fn init_record(line: &[u8]) {
-    let mut values = [0u8; 128];
+    let mut values = [0u8; 256];
     let read = fields::hex_bytes(fields::field(line, 2), &mut values);
     let q = quantiser(fields::field(line, 1));
     let Octets::Are(n) = read else {

@@ -5,7 +5,6 @@
 use Prim.Native.Nat.{ℕ, zero, suc, _≤_, _<_}
 use mathlib.Core.Path.{_≡_, refl, sym, ap, _∙_}
 use mathlib.Core.List.{List, [], _++_, append-nil}
-use mathlib.Core.Logic.{_↔_}
 use mathlib.Core.Bool.{Bool, true, false}
 use native.Mathlib.Omega.{arith}
 use lib.Dec.{ltb}
@@ -26,6 +25,7 @@ use Rattle.residual.specs.Limits.{Accepted, Statistics}
 use Rattle.residual.specs.LimitLaws.{parameter-passed, parameter-same, statistics-passed}
 use Rattle.residual.specs.Entries.{Found, foundOf, blockWith, BinsRead, readBins, BinsWritten, wantedFrom, writeBins}
 use Rattle.exact.specs.ResidualLaws.{Says, residual-writes, residual-exact}
+use Rattle.exact.specs.Outcome.{Exactly, Outcome, fits, over, none, number-ok, exactly}
 use Rattle.exact.specs.RefusalLaws.{refusal-none, none-refusal, refusal-below}
 use Rattle.exact.specs.EntryLaws.{Handed, writes-refused, writes-fits, writes-over, writes-passed, reads-whole, reads-passed}
 
@@ -96,23 +96,7 @@ module _ (p : Params) (acc : Accepted p) (stats l : List ℕ) (a : Block) (q : r
   pub block-long : length (a .levels) ≡ area p
   block-long = read-long p acc stats (wantedOf a) l itself
 
--- ---- the number that the writer gives back
-not-le : (m n : ℕ) → (n ≤ m → ⊥) → m < n
-not-le m n f = go (ltb m n) refl
-  where
-    go : (d : Bool) → ltb m n ≡ d → m < n
-    go true q = ltb-true m n q
-    go false q = absurd (f (ltb-false m n q))
-
-not-accepted : {X : Type 0} (m n : ℕ) → Answer.refused m ≡ Answer.accepted n → X
-not-accepted m n q = let z : _≡_ {A = ℕ} 0 1 = cc in absurd (omega arith)
-
-same-accepted : (m n : ℕ) → Answer.accepted m ≡ Answer.accepted n → m ≡ n
-same-accepted m n q = cc
-
-same-refused : (m n : ℕ) (a : Answer ℕ) → a ≡ Answer.refused m → a ≡ Answer.refused n → m ≡ n
-same-refused m n a q r = cc
-
+-- ---- what becomes of a block
 -- where neither 4 nor 3 applies to what the writer is handed; what is written of a block is its first n·n places, with skip and RDPCM
 module _ (p : Params) (stats : List ℕ) (block : List ℤ) (skip : Bool) (rdpcm : Rdpcm) (room : List ℕ)
     (not-4 : 0 ≡ parameterRefusal p block) (not-3 : 0 ≡ statisticsRefusal stats) where
@@ -121,15 +105,6 @@ module _ (p : Params) (stats : List ℕ) (block : List ℤ) (skip : Bool) (rdpcm
 
   acc : Accepted p
   acc = parameter-passed p block not-4 .0
-
-  -- what becomes of a block: a list that fits, one that does not, or none
-  data Outcome : Type 0 where
-    fits : (l : List ℕ) → ReadsAs p stats l (wantedFrom p block skip rdpcm) → length l ≤ length room
-        → writeBins p stats block skip rdpcm room .answer ≡ Answer.accepted (length l) → Outcome
-    over : (l : List ℕ) → ReadsAs p stats l (wantedFrom p block skip rdpcm) → length room < length l
-        → writeBins p stats block skip rdpcm room .answer ≡ Answer.refused 12 → Outcome
-    none : (n : ℕ) → n ≤ 11 → (writeRefusal p (wantedFrom p block skip rdpcm) ≡ 0 → ⊥)
-        → writeBins p stats block skip rdpcm room .answer ≡ Answer.refused n → Outcome
 
   -- a list that reads as the block is what is written of it
   when-fits : (l : List ℕ) → ReadsAs p stats l (wantedFrom p block skip rdpcm) → length l ≤ length room
@@ -146,69 +121,30 @@ module _ (p : Params) (stats : List ℕ) (block : List ℤ) (skip : Bool) (rdpcm
       let x = read p acc stats (wantedFrom p block skip rdpcm) l r in
       ap (λ (b : BinsWritten). b .answer) (writes-over p stats block skip rdpcm room h (x .0) (r .answer) l (x .1) k)
 
-  outcome : Outcome
+  outcome : Outcome (λ l. ReadsAs p stats l (wantedFrom p block skip rdpcm)) (length room) (writeBins p stats block skip rdpcm room .answer)
   unfolding acc
   outcome = by (writeRefusal p w) refl
     where
       w : Wanted
       w = wantedFrom p block skip rdpcm
 
-      listed : (l : List ℕ) → ReadsAs p stats l w → (d : Bool) → ltb (length room) (length l) ≡ d → Outcome
+      listed : (l : List ℕ) → ReadsAs p stats l w → (d : Bool) → ltb (length room) (length l) ≡ d
+          → Outcome (λ l. ReadsAs p stats l w) (length room) (writeBins p stats block skip rdpcm room .answer)
       listed l r true q = let k = ltb-true (length room) (length l) q in over l r k (when-over l r k)
       listed l r false q = let k = ltb-false (length room) (length l) q in fits l r k (when-fits l r k)
 
-      by : (n : ℕ) → writeRefusal p w ≡ n → Outcome
+      by : (n : ℕ) → writeRefusal p w ≡ n → Outcome (λ l. ReadsAs p stats l w) (length room) (writeBins p stats block skip rdpcm room .answer)
       by zero e =
           let pass = parameter-passed p block not-4 in
           let s = written p acc stats w (statistics-passed stats not-3) (length-take-le (area p) block (pass .1)) e in
           listed (s .0) (s .1) (ltb (length room) (length (s .0))) refl
       by (suc n) e =
-          none (suc n) (omega (arith, refusal-below p w)) (λ z. omega arith)
+          none (suc n) (λ q. omega (arith, refusal-below p w)) (refused p acc stats w (λ z. omega arith))
           (ap (λ (b : BinsWritten). b .answer) (writes-refused p stats block skip rdpcm room h n e))
 
-  -- it accepts, with the length n, exactly when a list of length n that fits the room reads as the block
-  pub number-ok : (n : ℕ) → (writeBins p stats block skip rdpcm room .answer ≡ Answer.accepted n)
-      ↔ ((l : List ℕ) × ReadsAs p stats l (wantedFrom p block skip rdpcm) × (length l ≡ n) × (n ≤ length room))
-  number-ok n = (go outcome, λ x. when-fits (x .0) (x .1) (omega (arith, x .2, x .3)) ∙ ap Answer.accepted (x .2))
-    where
-      go : Outcome → writeBins p stats block skip rdpcm room .answer ≡ Answer.accepted n
-          → (l : List ℕ) × ReadsAs p stats l (wantedFrom p block skip rdpcm) × (length l ≡ n) × (n ≤ length room)
-      go (fits l r k e) q = let s = same-accepted (length l) n (sym e ∙ q) in (l, r, s, omega arith)
-      go (over l r k e) q = not-accepted 12 n (sym e ∙ q)
-      go (none m k z e) q = not-accepted m n (sym e ∙ q)
-
-  -- it reports no room exactly when a list that reads as the block exists and none fits the lent room
-  pub number-room : (writeBins p stats block skip rdpcm room .answer ≡ Answer.refused 12)
-      ↔ ((l : List ℕ) × ReadsAs p stats l (wantedFrom p block skip rdpcm)
-      × ((m : List ℕ) → ReadsAs p stats m (wantedFrom p block skip rdpcm) → length m ≤ length room → ⊥))
+  only-one : (l m : List ℕ) → ReadsAs p stats l (wantedFrom p block skip rdpcm) → ReadsAs p stats m (wantedFrom p block skip rdpcm) → l ≡ m
   unfolding acc
-  number-room = (go outcome, λ x. when-over (x .0) (x .1) (not-le (length room) (length (x .0)) (x .2 (x .0) (x .1))))
-    where
-      go : Outcome → writeBins p stats block skip rdpcm room .answer ≡ Answer.refused 12
-          → (l : List ℕ) × ReadsAs p stats l (wantedFrom p block skip rdpcm)
-          × ((m : List ℕ) → ReadsAs p stats m (wantedFrom p block skip rdpcm) → length m ≤ length room → ⊥)
-      go (fits l r k e) q = not-accepted 12 (length l) (sym q ∙ e)
-      go (over l r k e) q =
-          (l, r, λ m s j. let t : length l ≡ length m = ap length (only p acc stats (wantedFrom p block skip rdpcm) l m r s) in omega arith)
-      go (none n k z e) q = let s = same-refused n 12 (writeBins p stats block skip rdpcm room .answer) e q in absurd (omega arith)
-
-  -- apart from lack of room it refuses exactly when no list of any length reads as the block
-  pub number-none : ((n : ℕ) × (writeBins p stats block skip rdpcm room .answer ≡ Answer.refused n) × (n ≡ 12 → ⊥))
-      ↔ ((l : List ℕ) → ReadsAs p stats l (wantedFrom p block skip rdpcm) → ⊥)
-  unfolding acc
-  number-none = (λ x l r. against outcome (x .0) (x .1) (x .2) l r, go outcome)
-    where
-      against : Outcome → (n : ℕ) → writeBins p stats block skip rdpcm room .answer ≡ Answer.refused n → (n ≡ 12 → ⊥)
-          → (l : List ℕ) → ReadsAs p stats l (wantedFrom p block skip rdpcm) → ⊥
-      against (fits m s k e) n q o l r = not-accepted n (length m) (sym q ∙ e)
-      against (over m s k e) n q o l r = o (same-refused n 12 (writeBins p stats block skip rdpcm room .answer) q e)
-      against (none m k z e) n q o l r = z (read p acc stats (wantedFrom p block skip rdpcm) l r .0)
-
-      go : Outcome → ((l : List ℕ) → ReadsAs p stats l (wantedFrom p block skip rdpcm) → ⊥)
-          → (n : ℕ) × (writeBins p stats block skip rdpcm room .answer ≡ Answer.refused n) × (n ≡ 12 → ⊥)
-      go (fits l r k e) f = absurd (f l r)
-      go (over l r k e) f = absurd (f l r)
-      go (none n k z e) f = (n, e, λ q. omega arith)
+  only-one = only p acc stats (wantedFrom p block skip rdpcm)
 
 -- ---- the way round
 -- what the writer accepts stands at the front of the room and reads as the block; the room beyond it is untouched, and the statistics are those
@@ -235,7 +171,8 @@ module _ (p : Params) (stats : List ℕ) (block : List ℤ) (skip : Bool) (rdpcm
   pub wrote : Wrote p stats block skip rdpcm room n
   wrote =
       let h = writes-passed p stats block skip rdpcm room n ok .0 in
-      let x = number-ok p stats block skip rdpcm room (h .parameters) (h .statistics) n .0 ok in
+      let x = number-ok (λ l. ReadsAs p stats l (wantedFrom p block skip rdpcm)) (length room) (writeBins p stats block skip rdpcm room .answer)
+      (only-one p stats block skip rdpcm room (h .parameters) (h .statistics)) (outcome p stats block skip rdpcm room (h .parameters) (h .statistics)) n .0 ok in
       let r = x .1 in
       let y = read p (parameter-passed p block (h .parameters) .0) stats (wantedFrom p block skip rdpcm) (x .0) r in
       let e = writes-fits p stats block skip rdpcm room h (y .0) (r .answer) (x .0) (y .1) (omega (arith, x .2, x .3)) in
@@ -265,6 +202,21 @@ module _ (p : Params) (stats : List ℕ) (block : List ℤ) (skip : Bool) (rdpcm
         skips = u .reads .skip;
         explicit = u .reads .rdpcm;
       }
+
+-- demand 3: the writer's answer, and the room that it leaves
+pub block-exactly : (p : Params) (stats : List ℕ) (block : List ℤ) (skip : Bool) (rdpcm : Rdpcm) (room : List ℕ)
+    → Exactly ((0 ≡ parameterRefusal p block) × (0 ≡ statisticsRefusal stats)) (λ l. ReadsAs p stats l (wantedFrom p block skip rdpcm)) room
+    (writeBins p stats block skip rdpcm room .answer) (writeBins p stats block skip rdpcm room .room)
+block-exactly p stats block skip rdpcm room =
+    exactly (λ h. only-one p stats block skip rdpcm room (h .0) (h .1)) (λ h. outcome p stats block skip rdpcm room (h .0) (h .1)) stands
+  where
+    stands : (n : ℕ) → writeBins p stats block skip rdpcm room .answer ≡ Answer.accepted n
+        → (l : List ℕ) → ReadsAs p stats l (wantedFrom p block skip rdpcm) → writeBins p stats block skip rdpcm room .room ≡ l ++ drop n room
+    stands n q l r =
+        let h = writes-passed p stats block skip rdpcm room n q .0 in
+        let u = wrote p stats block skip rdpcm room n q in
+        ap (λ (b : BinsWritten). b .room) (u .leaves)
+        ∙ ap (λ (m : List ℕ). m ++ drop n room) (only-one p stats block skip rdpcm room (h .parameters) (h .statistics) (u .list) l (u .reads) r)
 
 -- what the reader accepts, the writer writes again entry for entry, with room for it, and leaves the same statistics
 module _ (l stats : List ℕ) (p : Params) (block : List ℤ) where

@@ -12,4 +12,5 @@ pub mod RefusalLaws
 pub mod GoesLaws
 pub mod EntryLaws
 pub mod PieceLaws
+pub mod Outcome
 pub mod Exact

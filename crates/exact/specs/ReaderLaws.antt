@@ -10,7 +10,7 @@ use lib.Arith.{mod-mul}
 use lib.Dec.{leb, eqb}
 use borrow.Author.Tests.{leb-true, leb-false, le-leb, lt-leb}
 use Rattle.bins.specs.Engine.{bitNo}
-use Rattle.bins.specs.Tags.{tag, bypassNo}
+use Rattle.bins.specs.Tags.{tag, bypassNo, entry}
 use Rattle.bins.specs.Syn.{Syn, done, Written, also, write}
 use Rattle.bins.specs.Readers.{odd, flagIf, bitsS, onesS, prefixS}
 use Rattle.exact.specs.TreeLaws.{Writes, writes-done, writes-bin, writes-bypass, Exact, exact-done, exact-bin, exact-bypass, exact-as}
@@ -81,7 +81,7 @@ bits-written (suc n) v w t =
     let s = bits-written n (v * 2 + bitNo d) w t in
     let q : (v * 2 + bitNo d) * 2 ^ n + w t % 2 ^ n ≡ v * 2 ^ suc n + w t % 2 ^ suc n =
     omega (arith, high-bit (w t) n, ap (λ z. v * z) (pow-suc 2 n)) in
-    (tag bypassNo d ∷ s .0, ap (also (tag bypassNo d)) (s .1) ∙ ap (λ z. Written.ok z (tag bypassNo d ∷ s .0)) q)
+    (entry (tag bypassNo d) (s .0), ap (also (tag bypassNo d)) (s .1) ∙ ap (λ z. Written.ok z (entry (tag bypassNo d) (s .0))) q)
 
 pub same-bit : (c d : Bool) (p x y : ℕ) → x < p → y < p → bitNo c * p + x ≡ bitNo d * p + y → (c ≡ d) × (x ≡ y)
 same-bit true true p x y h k e = (refl, omega arith)

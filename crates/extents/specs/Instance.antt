@@ -5,6 +5,7 @@ use mathlib.Core.List.{List, [], _∷_}
 use mathlib.Core.Bool.{true, false}
 use lib.ListN.{replicate}
 use lib.IntN.{ℤ, pos}
+use Rattle.bins.specs.Tags.{isEntry}
 use Rattle.bins.specs.Syn.{_>>=_, run, byList}
 use Rattle.bins.specs.Readers.{bitsS, onesS, prefixS}
 use Rattle.cabac.specs.Numbers.{accepted, _orElse_, unless}
@@ -41,7 +42,7 @@ plain =
     }
 
 abbrev bins : List ℕ
-bins = 1 ∷ 2 ∷ 36 ∷ 77 ∷ 72 ∷ 170 ∷ 172 ∷ 240 ∷ 240 ∷ []
+bins = 1 ∷ 0 ∷ 2 ∷ 0 ∷ 36 ∷ 0 ∷ 77 ∷ 0 ∷ 72 ∷ 0 ∷ 170 ∷ 0 ∷ 172 ∷ 0 ∷ 4 ∷ 1 ∷ 4 ∷ 1 ∷ []
 
 abbrev stats : List ℕ
 stats = replicate 4 0
@@ -53,7 +54,7 @@ abbrev found : Found
 found = record { skip = false; rdpcm = ofRdpcm.None; column = 1; row = 1; greatest = 1 }
 
 marked-accepted : readBins bins stats plain lent .answer ≡ accepted found
-unfolding _>>=_ run byList bitsS onesS prefixS _orElse_ unless scanOrder numberIn sigCtx spotIn wantedIn downFrom leastOf lastPrefix groupsS headS remainderS residual withinLimits parameterRefusal statisticRefusal statisticsRefusal readFromList readBinsBy readBins
+unfolding isEntry _>>=_ run byList bitsS onesS prefixS _orElse_ unless scanOrder numberIn sigCtx spotIn wantedIn downFrom leastOf lastPrefix groupsS headS remainderS residual withinLimits parameterRefusal statisticRefusal statisticsRefusal readFromList readBinsBy readBins
 marked-accepted = refl
 
 pub marked-extents : Extents plain (readBins bins stats plain lent .block) 1 1

@@ -1,37 +1,37 @@
 -- Laws of writing, step by step: what is left of a tree behind a bin, and behind a tree before it. Assumes nothing.
-use Prim.Native.Nat.{ℕ, suc, _≤_, _<_}
-use mathlib.Core.Path.{_≡_, refl, sym, ap, subst, _∙_}
+use Prim.Native.Nat.{ℕ, suc, _+_, _*_, _≤_, _<_}
+use mathlib.Core.Path.{_≡_, refl, sym, ap, ap₂, subst, _∙_}
 use mathlib.Core.Bool.{Bool, true, false, cond}
 use mathlib.Core.List.{List, [], _∷_, _++_}
 use native.Mathlib.Omega.{arith}
 use lib.ListN.{length, set, length-set}
 use lib.Dec.{ltb}
 use borrow.Author.Tests.{lt-ltb, le-ltb}
-use Rattle.bins.specs.Tags.{tag, bypassNo, alignTag}
+use Rattle.bins.specs.Tags.{tag, bypassNo, alignTag, low, high, entry}
 use Rattle.bins.specs.Syn.{Syn, done, stop, bin, bypass, align, _>>=_, Written, also, write}
 use Rattle.bins.specs.WriteLaws.{behind, thenWrite, write-bind}
 use Rattle.residual.specs.Wanted.{Wanted, S}
 use Rattle.pen.specs.declared.room.Pen.{Pen}
-use Rattle.pen.specs.Sheet.{Sheet, sheet, moved, entered, enteredAll, Wrote}
+use Rattle.pen.specs.Sheet.{Sheet, sheet, moved, inked, entered, enteredAll, Wrote}
 
--- ---- one entry, as the code puts it
+-- ---- one byte, as the code puts it
 module _ (room : List ℕ) (pen : Pen) (x : ℕ) where
-  pub entered-over : length room ≤ pen .at → sheet room (record { at = pen .at; over = true; writing = pen .writing }) ≡ entered x (sheet room pen)
-  unfolding entered
-  entered-over h = rw (le-ltb (pen .at) (length room) h)
+  pub inked-over : length room ≤ pen .at → sheet room (record { at = pen .at; over = true; writing = pen .writing }) ≡ inked x (sheet room pen)
+  unfolding inked
+  inked-over h = rw (le-ltb (pen .at) (length room) h)
 
   module _ (h : pen .at < length room) where
-    pub entered-written : pen .writing ≡ true → sheet (set room (pen .at) x) (moved pen) ≡ entered x (sheet room pen)
-    unfolding entered
-    entered-written q = rw (lt-ltb (pen .at) (length room) h, q)
+    pub inked-written : pen .writing ≡ true → sheet (set room (pen .at) x) (moved pen) ≡ inked x (sheet room pen)
+    unfolding inked
+    inked-written q = rw (lt-ltb (pen .at) (length room) h, q)
 
-    pub entered-counted : pen .writing ≡ false → sheet room (moved pen) ≡ entered x (sheet room pen)
-    unfolding entered
-    entered-counted q = rw (lt-ltb (pen .at) (length room) h, q)
+    pub inked-counted : pen .writing ≡ false → sheet room (moved pen) ≡ inked x (sheet room pen)
+    unfolding inked
+    inked-counted q = rw (lt-ltb (pen .at) (length room) h, q)
 
-pub entered-long : (x : ℕ) (s : Sheet) → length (entered x s .room) ≡ length (s .room)
-unfolding entered
-entered-long x s = go (ltb (s .pen .at) (length (s .room))) (s .pen .writing)
+pub inked-long : (x : ℕ) (s : Sheet) → length (inked x s .room) ≡ length (s .room)
+unfolding inked
+inked-long x s = go (ltb (s .pen .at) (length (s .room))) (s .pen .writing)
   where
     go : (within writing : Bool)
         → length ((cond within (sheet (cond writing (set (s .room) (s .pen .at) x) (s .room)) (moved (s .pen)))
@@ -40,15 +40,25 @@ entered-long x s = go (ltb (s .pen .at) (length (s .room))) (s .pen .writing)
     go true false = refl
     go false writing = refl
 
+-- ---- one entry
+-- the sheets in between: one byte put, the other put
+pub entered-two : (t x y : ℕ) (s s′ s″ : Sheet) → x ≡ low t → y ≡ high t → s′ ≡ inked x s → s″ ≡ inked y s′ → s″ ≡ entered t s
+unfolding entered
+entered-two t x y s s′ s″ p q e f = f ∙ ap₂ inked q (e ∙ ap (λ z. inked z s) p)
+
+pub entered-long : (t : ℕ) (s : Sheet) → length (entered t s .room) ≡ length (s .room)
+unfolding entered
+entered-long t s = inked-long (high t) (inked (low t) s) ∙ inked-long (low t) s
+
 -- ---- a list and then another
 pub entered-++ : (l m : List ℕ) (s : Sheet) → enteredAll (l ++ m) s ≡ enteredAll m (enteredAll l s)
 unfolding enteredAll
 entered-++ [] m s = refl
-entered-++ (x ∷ l) m s = entered-++ l m (entered x s)
+entered-++ (x ∷ l) m s = entered-++ l m (inked x s)
 
 -- ---- trees
 also-spells : {A : Type 0} (x : ℕ) (o : Written A) (a : A) (l : List ℕ) → also x o ≡ Written.ok a l
-    → (m : List ℕ) × (o ≡ Written.ok a m) × (l ≡ x ∷ m)
+    → (m : List ℕ) × (o ≡ Written.ok a m) × (l ≡ entry x m)
 unfolding also
 also-spells x (Written.ok a′ m) a l q = (m, cc, cc)
 also-spells x (Written.no r) a l q = let z : _≡_ {A = ℕ} 0 1 = cc in absurd (omega arith)
@@ -72,7 +82,7 @@ module _ {A : Type 0} (w : Wanted) where
       }
 
   one-more : (t u : S A) (x : ℕ) (s : Sheet) → write t w ≡ also x (write u w) → Wrote t u w s (entered x s)
-  unfolding enteredAll
+  unfolding entered enteredAll
   one-more t u x s e =
       record {
         leads = λ a l q.

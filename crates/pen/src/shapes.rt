@@ -7,6 +7,7 @@ ghost use mathlib.Core.Bool.{Bool, true, _&&_};
 ghost use Prim.Native.Nat.{ℕ, _+_, _^_, _≤_, _<_};
 ghost use Rattle.bins.specs.Syn.{done};
 ghost use Rattle.bins.specs.Readers.{flagIf, bitsS, onesS, prefixS};
+ghost use Rattle.bins.specs.Tags.{contextCount};
 ghost use Rattle.residual.specs.Wanted.{Wanted};
 ghost use Rattle.pen.specs.Sheet.{sheet, Wrote, Counts};
 
@@ -26,7 +27,7 @@ pub fn put_bits(room: &mut [u8], pen: Pen, n: u32, v: u32) -> Pen
 
 // A flag where it is coded.
 pub fn put_flag_if(room: &mut [u8], pen: Pen, coded: bool, number: usize, flag: bool) -> Pen
-    requires { ⌜ number < 120 ⌝ }
+    requires { ⌜ number < contextCount ⌝ }
     ensures { λ r. ⌜ ((want : Wanted → Bool) (w : Wanted) → (coded ≡ true → want w ≡ flag) → Wrote (flagIf coded number want) (done (coded && flag)) w (sheet (now (room .entry)) pen) (sheet (now (room .exit)) r)) ⌝ }
 {
     if coded {
@@ -37,7 +38,7 @@ pub fn put_flag_if(room: &mut [u8], pen: Pen, coded: bool, number: usize, flag: 
 
 // n ones, and a zero behind them unless n is the greatest count: bins with contexts base + (count shifted right by shift).
 pub fn put_prefix(room: &mut [u8], pen: Pen, base: usize, shift: u32, n: u32, most: u32) -> Pen
-    requires { ⌜ (base + most ≤ 120) × (n ≤ most) × (most ≤ 9) × (shift ≤ 3) ⌝ }
+    requires { ⌜ (base + most ≤ contextCount) × (n ≤ most) × (most ≤ 9) × (shift ≤ 3) ⌝ }
     ensures { λ r. ⌜ ((want : ℕ → Wanted → Bool) (w : Wanted) → Counts want w n most → Wrote (prefixS base shift most 0 want) (done n) w (sheet (now (room .entry)) pen) (sheet (now (room .exit)) r)) ⌝ }
 {
     let mut y = pen;

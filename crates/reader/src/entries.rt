@@ -6,6 +6,7 @@ use crate::block::read_block;
 use bins::places::BitPlace;
 use bins::state::Engine;
 use bins::state::Interval;
+use bins::tags::CONTEXTS;
 use cabac::engine::open;
 use cabac::engine::payload_refusal;
 use cabac::engine::settle;
@@ -166,7 +167,7 @@ fn clear(block: &mut [i32], n: usize)
 // A block into the first places. Contexts and statistics are copied, and stored again only where the block is accepted.
 fn read_into(
     list: bool,
-    contexts: &mut [u8; 120],
+    contexts: &mut [u8; CONTEXTS],
     stats: &mut [u8; 4],
     bytes: &[u8],
     p: Params,
@@ -195,7 +196,7 @@ fn read_into(
 pub fn residual_coding(
     bytes: &[u8],
     e: Engine,
-    contexts: &mut [u8; 120],
+    contexts: &mut [u8; CONTEXTS],
     stats: &mut [u8; 4],
     p: Params,
     block: &mut [i32],
@@ -222,7 +223,7 @@ pub fn read_bins(bytes: &[u8], stats: &mut [u8; 4], p: Params, block: &mut [i32]
     if n != 0 {
         return ReadList::Refused(n);
     }
-    let mut contexts = [0u8; 120];
+    let mut contexts = [0u8; CONTEXTS];
     let mut st = *stats;
     let front = Interval {
         range: 256,

@@ -14,10 +14,10 @@ use writer::entries::Written;
 use writer::entries::write_bins;
 
 // The longest list has 1,812 bins.
-const ROOM: usize = 4096;
+pub const ROOM: usize = 4096;
 
 // What each place of the room holds before the call; no list has it.
-const BLANK: u8 = 255;
+pub const BLANK: u8 = 255;
 
 fn is_blank_from(room: &[u8; ROOM], from: usize) -> bool {
     let mut i = from;
@@ -50,7 +50,7 @@ fn refusal(room: &[u8; ROOM], number: u32) {
 }
 
 // How long the list is; a refusal has none.
-fn answer(r: Written, room: &[u8; ROOM]) -> usize {
+pub fn answer(r: Written, room: &[u8; ROOM]) -> usize {
     match r {
         Written::List(length) => {
             list(room, length);
@@ -89,7 +89,7 @@ fn in_room(p: Params, handed: &[u8; 4], block: &[i32; 1024], f: Found, length: u
     n
 }
 
-fn one_less(length: usize) -> usize {
+pub fn one_less(length: usize) -> usize {
     if length == 0 { 0 } else { length - 1 }
 }
 

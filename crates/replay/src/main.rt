@@ -1,5 +1,5 @@
 // Answers blocks of real streams, and made ones, through the two block readers, and writes each block that was taken: four lines of
-// standard output for a line of input, two where the block is refused.
+// standard output for a line of input, two where the block is refused. Cross-component scales likewise: see scales.rt.
 // Fields are parted by one space; bytes are hexadecimal. tools/block_vectors.py writes both files from the vectors and from oracle's sample.
 //
 //     B parameters(14) range offset position payload contexts statistics list
@@ -7,10 +7,12 @@
 // Parameters stand as in the vectors: log2, luma, scan, hiding, skip allowed, lossless, persistent, skip context, explicit, implicit, inter,
 // aligning, extended, depth. See show.rt and again.rt for the lines written.
 mod again; // again.rt: the block written by the bin writer
+mod scales; // scales.rt: scales, read and written
 mod show; // show.rt: an answer, with all that it leaves behind
 
 use bins::places::BitPlace;
 use bins::state::Engine;
+use bins::tags::CONTEXTS;
 use reader::entries::ReadList;
 use reader::entries::read_bins;
 use reader::entries::residual_coding;
@@ -24,7 +26,7 @@ use report::write;
 use residual::params::Params;
 
 // The longest payload is 187 bytes, the longest list 1,812 bins.
-const PAYLOAD: usize = 1024;
+pub const PAYLOAD: usize = 1024;
 
 const LIST: usize = 4096;
 
@@ -35,14 +37,14 @@ struct Held {
 }
 
 // A number that is none is the greatest, which nothing accepts.
-fn number(line: &[u8], k: usize) -> u32 {
+pub fn number(line: &[u8], k: usize) -> u32 {
     let Number::Is(n) = fields::decimal(fields::field(line, k)) else {
         return u32::MAX;
     };
     if n < 4294967296 { n as u32 } else { u32::MAX }
 }
 
-fn is_on(line: &[u8], k: usize) -> bool {
+pub fn is_on(line: &[u8], k: usize) -> bool {
     number(line, k) == 1
 }
 
@@ -93,7 +95,7 @@ fn state(line: &[u8]) -> Engine {
 }
 
 // How many bytes the field has; one that is not hexadecimal counts as empty.
-fn bytes_of(line: &[u8], k: usize, out: &mut [u8]) -> usize {
+pub fn bytes_of(line: &[u8], k: usize, out: &mut [u8]) -> usize {
     match fields::hex_bytes(fields::field(line, k), out) {
         Octets::Are(n) => n,
         Octets::Missing => 0,
@@ -102,7 +104,7 @@ fn bytes_of(line: &[u8], k: usize, out: &mut [u8]) -> usize {
 
 fn from_payload(line: &[u8], p: Params) {
     let mut payload = [0u8; PAYLOAD];
-    let mut contexts = [0u8; 120];
+    let mut contexts = [0u8; CONTEXTS];
     let mut statistics = [0u8; 4];
     let mut block = [show::BEHIND; 1024];
     let n = bytes_of(line, 18, &mut payload);
@@ -149,10 +151,24 @@ fn written(line: &[u8], p: Params, block: &[i32; 1024], r: ReadList) {
     again::lines_of(p, &statistics, block, f);
 }
 
-fn record(line: &[u8]) {
+fn block(line: &[u8]) {
     let p = params(line);
     from_payload(line, p);
     from_list(line, p);
+}
+
+// The letter that a line begins with.
+fn kind(line: &[u8]) -> u8 {
+    if line.len() == 0 { 0 } else { line[0] }
+}
+
+fn record(line: &[u8]) {
+    match kind(line) {
+        b'P' => scales::from_payload(line),
+        b'L' => scales::from_list(line),
+        b'W' => scales::from_numbers(line),
+        _ => block(line),
+    }
 }
 
 fn turn(buffer: &mut [u8; 65536], window: Window) -> Held {

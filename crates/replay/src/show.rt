@@ -7,6 +7,7 @@
 //
 // Levels are place:level, parted by commas, or a dash: those of the block that are not 0, and those behind it that were changed.
 use bins::state::Engine;
+use bins::tags::CONTEXTS;
 use reader::block::Found;
 use reader::entries::Read;
 use reader::entries::ReadList;
@@ -98,7 +99,7 @@ pub fn levels(block: &[i32; 1024], log2: u32) {
     }
 }
 
-pub fn contexts(s: &[u8; 120]) {
+pub fn contexts(s: &[u8; CONTEXTS]) {
     write::text(b" ");
     write::hex_bytes(s);
 }

@@ -10,7 +10,7 @@ use lib.IntN.{ℤ, pos, negsuc}
 use Rattle.bins.specs.Bits.{bits}
 use Rattle.tables.specs.Tables.{rangeTabLps, transIdxMps, transIdxLps, lpsOf, onMps, onLps}
 use Rattle.bins.specs.Engine.{place, Decided, Drawn, fetched, started, splitBy, split, decided, bypassed}
-use Rattle.bins.specs.Tags.{contextCount}
+use Rattle.bins.specs.Tags.{contextCount, isEntry}
 use Rattle.cabac.specs.Contexts.{slopeRaised, preRaised, initial, initialAll}
 use Rattle.bins.specs.Syn.{_>>=_, run, byEngine, byList, write}
 use Rattle.bins.specs.Readers.{bitsS, onesS, prefixS}
@@ -33,7 +33,7 @@ pub data Case : Type 0 where
   startCase : List ℕ → ℕ → Case  -- payload, number given
   bypassCase : List ℕ → ℕ → ℕ → ℕ → ℕ → ℕ → Case  -- payload, count, answer, offset, position, bits past the end
   decisionCase : List ℕ → ℕ → Bool → ℕ → ℕ → ℕ → Case  -- payload, context, bin, range, offset, context behind it
-  listCase : List ℤ → List ℕ → ℕ → ℕ → Case  -- levels, bin list, column and row extent
+  listCase : List ℤ → List ℕ → ℕ → ℕ → Case  -- levels, bin list in bytes, column and row extent
   payloadCase : List ℕ → ℕ → List ℤ → ℕ → ℕ → ℕ → List ℕ → Case  -- payload, initial values, levels, position, range, offset, the contexts that are now 0
   hidingCase : List ℤ → ℕ → Case  -- levels, number given with hiding on
 
@@ -50,8 +50,8 @@ table =
     ∷ bypassCase (0x80 ∷ 0x00 ∷ []) 3 4 8 12 0
     ∷ bypassCase (0x80 ∷ 0x00 ∷ []) 10 514 11 16 3
     ∷ decisionCase (0xfe ∷ 0x80 ∷ []) 0 true 480 478 64
-    ∷ listCase (pos 1 ∷ replicate 15 (pos 0)) (0 ∷ 36 ∷ 170 ∷ 240 ∷ []) 0 0
-    ∷ listCase (pos 0 ∷ pos 1 ∷ pos 0 ∷ pos 0 ∷ pos 1 ∷ replicate 11 (pos 0)) (1 ∷ 2 ∷ 36 ∷ 77 ∷ 72 ∷ 170 ∷ 172 ∷ 240 ∷ 240 ∷ []) 1 1
+    ∷ listCase (pos 1 ∷ replicate 15 (pos 0)) (0 ∷ 0 ∷ 36 ∷ 0 ∷ 170 ∷ 0 ∷ 4 ∷ 1 ∷ []) 0 0
+    ∷ listCase (pos 0 ∷ pos 1 ∷ pos 0 ∷ pos 0 ∷ pos 1 ∷ replicate 11 (pos 0)) (1 ∷ 0 ∷ 2 ∷ 0 ∷ 36 ∷ 0 ∷ 77 ∷ 0 ∷ 72 ∷ 0 ∷ 170 ∷ 0 ∷ 172 ∷ 0 ∷ 4 ∷ 1 ∷ 4 ∷ 1 ∷ []) 1 1
     ∷ payloadCase (0xfe ∷ 0x80 ∷ []) 154 (negsuc 0 ∷ replicate 15 (pos 0)) 13 480 464 (0 ∷ 18 ∷ 85 ∷ [])
     ∷ hidingCase (pos 1 ∷ replicate 4 (pos 0) ++ (pos 1 ∷ replicate 10 (pos 0))) 0
     ∷ hidingCase (negsuc 0 ∷ replicate 4 (pos 0) ++ (pos 1 ∷ replicate 10 (pos 0))) 11
@@ -86,7 +86,7 @@ lentBlock : List ℤ
 lentBlock = replicate 17 (pos 7)
 
 lentRoom : List ℕ
-lentRoom = replicate 12 255
+lentRoom = replicate 31 255
 
 sameℤ : ℤ → ℤ → Bool
 sameℤ (pos a) (pos b) = eqb a b
@@ -177,5 +177,5 @@ allPass (c ∷ cs) = passes c && allPass cs
 
 -- the statement
 pub marked-cases : allPass table ≡ true
-unfolding allPass table bits rangeTabLps transIdxMps transIdxLps lpsOf onMps onLps fetched started splitBy split decided bypassed slopeRaised preRaised initial initialAll leadingZeros _>>=_ run byEngine byList write bitsS onesS prefixS _orElse_ unless payloadRefusal possible stateRefusal contextRefusal countRefusal offsetRefusal endedRefusal start decision bypassBits scanOrder numberIn sigCtx spotIn wantedIn downFrom leastOf lastPrefix groupsS headS remainderS residual writeRefusal withinLimits parameterRefusal contextsRefusal statisticRefusal statisticsRefusal roomRefusal readByEngine readPayloadBy readPayload readFromList readBinsBy readBins writeListBy writeList writeBinsBy writeBins
+unfolding isEntry allPass table bits rangeTabLps transIdxMps transIdxLps lpsOf onMps onLps fetched started splitBy split decided bypassed slopeRaised preRaised initial initialAll leadingZeros _>>=_ run byEngine byList write bitsS onesS prefixS _orElse_ unless payloadRefusal possible stateRefusal contextRefusal countRefusal offsetRefusal endedRefusal start decision bypassBits scanOrder numberIn sigCtx spotIn wantedIn downFrom leastOf lastPrefix groupsS headS remainderS residual writeRefusal withinLimits parameterRefusal contextsRefusal statisticRefusal statisticsRefusal roomRefusal readByEngine readPayloadBy readPayload readFromList readBinsBy readBins writeListBy writeList writeBinsBy writeBins
 marked-cases = refl

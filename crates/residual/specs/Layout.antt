@@ -1,5 +1,5 @@
 -- Document 01's numbers of contexts: where those of each syntax element begin.
-use Prim.Native.Nat.{ℕ}
+use Prim.Native.Nat.{ℕ, _+_}
 use mathlib.Core.Bool.{Bool, cond}
 
 abbrev pub atLastX : ℕ  -- last_sig_coeff_x_prefix
@@ -28,6 +28,10 @@ atRdpcmFlag = 116
 
 abbrev pub atRdpcmDir : ℕ  -- explicit_rdpcm_dir_flag
 atRdpcmDir = 118
+
+-- how many a block has; those of other syntax stand behind them
+abbrev pub blockContexts : ℕ
+blockContexts = atRdpcmDir + 2
 
 -- within them chroma's stand behind luma's: what is added for chroma
 abbrev pub inChroma : Bool → ℕ → ℕ

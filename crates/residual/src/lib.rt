@@ -1,2 +1,3 @@
 // The residual syntax of H.265 (7.3.8.11): one transform block of levels, from any source of bins.
+pub mod layout; // layout.rt: how many contexts a block has
 pub mod params; // params.rt: what a block is read and written with

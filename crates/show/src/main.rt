@@ -1,13 +1,14 @@
 // Shows one block to a person: a frame of hexadecimal from standard input, the block or the refusal in words to standard output.
 //
 // A frame is 8 bytes for log2 size, luma (1) or chroma (0), scan, bit depth, QP, hiding (0 or 1), and the payload length as two bytes, high
-// first; then 120 initial values; then the payload of at most 4,096 bytes. Digits are lower case, two a byte, with nothing between them. Other
+// first; then an initial value for each context; then the payload of at most 4,096 bytes. Digits are lower case, two a byte, with nothing between them. Other
 // options are off, the statistics 0. What stands behind the frame is not looked at.
 mod grid; // grid.rt: the levels
 mod words; // words.rt: refusals and findings in words
 
 use bins::places::BitPlace;
 use bins::state::Engine;
+use bins::tags::CONTEXTS;
 use cabac::contexts::init_contexts;
 use cabac::engine::State;
 use cabac::engine::start;
@@ -27,7 +28,7 @@ const MOST: usize = 4096;
 // Header, values and payload as they stand in the frame.
 const HEADER_DIGITS: usize = 16;
 
-const FRONT_DIGITS: usize = 256;
+const FRONT_DIGITS: usize = HEADER_DIGITS + 2 * CONTEXTS;
 
 // Some bytes were spelled, so many of them, all by hexadecimal digits.
 fn spelled(digits: &[u8], out: &mut [u8]) -> bool {
@@ -93,7 +94,7 @@ fn ended() -> Engine {
 // 1 and 4 stand before the start's 5. Asked with an ended engine, 6 says that nothing else is wrong.
 fn refused_before_start(
     payload: &[u8],
-    contexts: &mut [u8; 120],
+    contexts: &mut [u8; CONTEXTS],
     statistics: &mut [u8; 4],
     p: Params,
     block: &mut [i32; 1024],
@@ -120,7 +121,7 @@ fn shown(found: Found, e: Engine, payload: &[u8], p: Params, block: &[i32; 1024]
 fn read_from(
     payload: &[u8],
     e: Engine,
-    contexts: &mut [u8; 120],
+    contexts: &mut [u8; CONTEXTS],
     statistics: &mut [u8; 4],
     p: Params,
     block: &mut [i32; 1024],
@@ -132,8 +133,8 @@ fn read_from(
     }
 }
 
-fn read(header: &[u8; 8], values: &[u8; 120], payload: &[u8]) {
-    let mut contexts = [0u8; 120];
+fn read(header: &[u8; 8], values: &[u8; CONTEXTS], payload: &[u8]) {
+    let mut contexts = [0u8; CONTEXTS];
     let mut statistics = [0u8; 4];
     let mut block = [0i32; 1024];
     let p = checked(header, params(header));
@@ -159,7 +160,7 @@ fn payload_length(header: &[u8; 8]) -> usize {
 // The frame that stands at the front of the text.
 fn frame(text: &[u8]) {
     let mut header = [0u8; 8];
-    let mut values = [0u8; 120];
+    let mut values = [0u8; CONTEXTS];
     let mut bytes = [0u8; MOST];
     if text.len() < HEADER_DIGITS {
         write::line(b"bad input: it ends within the first 8 bytes of a frame");

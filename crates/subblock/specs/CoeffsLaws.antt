@@ -10,6 +10,7 @@ use lib.ListN.{length, getD, set}
 use lib.Dec.{ltb, eqb}
 use lib.Count.{ones, ones-step, ones-le}
 use borrow.Author.Tests.{lt-ltb, le-ltb, ltb-true, ltb-false, eqb-true, eqb-false}
+use Rattle.bins.specs.Tags.{contextCount}
 use Rattle.bins.specs.declared.state.Interval.{Interval}
 use Rattle.bins.specs.declared.state.Step.{Step}
 use Rattle.bins.specs.declared.state.Step.the-variants as step
@@ -166,10 +167,10 @@ pub sb-few : (k : ℕ) (a b : Bool) → k ≡ 2 * bitNo a + bitNo b → k < 4
 sb-few k a b q = omega (arith, bit-most (bitNo a) a refl, bit-most (bitNo b) b refl)
 
 -- how great the numbers are
-pub base-few : (luma : Bool) (ctxSet base : ℕ) → base ≡ atGreater1 + 4 * ctxSet + inChroma luma 16 → ctxSet ≤ 3 → base + 3 < 120
+pub base-few : (luma : Bool) (ctxSet base : ℕ) → base ≡ atGreater1 + 4 * ctxSet + inChroma luma 16 → ctxSet ≤ 3 → base + 3 < contextCount
 base-few luma ctxSet base q h = omega (arith, chroma-most luma 16 (inChroma luma 16) refl)
 
-pub number-few : (luma : Bool) (ctxSet k : ℕ) → k ≡ atGreater2 + ctxSet + inChroma luma 4 → ctxSet ≤ 3 → k < 120
+pub number-few : (luma : Bool) (ctxSet k : ℕ) → k ≡ atGreater2 + ctxSet + inChroma luma 4 → ctxSet ≤ 3 → k < contextCount
 number-few luma ctxSet k q h = omega (arith, chroma-most luma 4 (inChroma luma 4) refl)
 
 pub eight-few : (n m : ℕ) → n ≡ min 8 m → n ≤ 8

@@ -10,6 +10,7 @@ use bins::state::Interval;
 use bins::state::Step;
 use bins::steps::align_bypass;
 use bins::steps::decode_bypass_bits;
+use bins::tags::CONTEXTS;
 use elements::head::Head;
 use elements::shapes::flag_if;
 use residual::params::Params;
@@ -211,7 +212,7 @@ fn leveled_refusal(l: Leveled) -> u32
 pub fn coeffs(
     list: bool,
     table: &[u32; 512],
-    contexts: &mut [u8; 120],
+    contexts: &mut [u8; CONTEXTS],
     bytes: &[u8],
     order: &[[u8; 2]; 16],
     block: &mut [i32],

@@ -1,6 +1,8 @@
 // coeff_abs_level_greater1_flag, of the first eight levels at most.
+ghost use Rattle.bins.specs.Tags.{contextCount};
 use bins::state::Interval;
 use bins::state::Step;
+use bins::tags::CONTEXTS;
 use elements::shapes::context_bin;
 ghost use mathlib.Core.Path.{_≡_};
 ghost use mathlib.Core.List.{List};
@@ -42,13 +44,13 @@ pub fn carry_next(b: u32, c: u32) -> u32
 pub fn greater1(
     list: bool,
     table: &[u32; 512],
-    contexts: &mut [u8; 120],
+    contexts: &mut [u8; CONTEXTS],
     base: usize,
     n: u32,
     bytes: &[u8],
     x: Interval,
 ) -> Greaters
-    requires { ⌜ Reads list (now bytes) x (now contexts) × (now table ≡ decisions) × (base + 3 < 120) × (n ≤ 8) ⌝ }
+    requires { ⌜ Reads list (now bytes) x (now contexts) × (now table ≡ decisions) × (base + 3 < contextCount) × (n ≤ 8) ⌝ }
     ensures { λ r. ⌜ ((lv : ℕ → Wanted → ℤ) (ks : List ℕ) → min 8 (length ks) ≡ n → SaysGreater n r (now (contexts .exit)) (from list (now (bytes .entry)) (greater1S lv base 8 ks none) x (now (contexts .entry)))) ⌝ }
 {
     let mut mask: u32 = 0;

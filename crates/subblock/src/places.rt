@@ -1,6 +1,8 @@
 // sig_coeff_flag: the significant places of a sub-block, highest first.
+ghost use Rattle.bins.specs.Tags.{contextCount};
 use bins::state::Interval;
 use bins::state::Step;
+use bins::tags::CONTEXTS;
 use elements::shapes::context_bin;
 use residual::params::Params;
 use scans::significance::sig_ctx;
@@ -88,7 +90,7 @@ pub fn refusal(s: Step) -> u32
 pub fn significance(
     list: bool,
     table: &[u32; 512],
-    contexts: &mut [u8; 120],
+    contexts: &mut [u8; CONTEXTS],
     bytes: &[u8],
     order: &[[u8; 2]; 16],
     map: &[[u8; 4]; 4],
@@ -102,7 +104,7 @@ pub fn significance(
     met: Places,
     x: Interval,
 ) -> Placed
-    requires { ⌜ Reads list (now bytes) x (now contexts) × (now table ≡ decisions) × (now order ≡ pairsOf (innerOf p)) × (now map ≡ mapRows) × (2 ≤ p .log2) × (p .log2 ≤ 5) × (p .scan ≤ 2) × (neighbours ≤ 3) × (xs ≤ 7) × (ys ≤ 7) × (p .log2 ≡ 2 → (xs ≡ 0) × (ys ≡ 0)) × Packs met × (met .count + below ≤ 16) × ((k : ℕ) → k < below → sigNumber p single neighbours xs ys k < 120) ⌝ }
+    requires { ⌜ Reads list (now bytes) x (now contexts) × (now table ≡ decisions) × (now order ≡ pairsOf (innerOf p)) × (now map ≡ mapRows) × (2 ≤ p .log2) × (p .log2 ≤ 5) × (p .scan ≤ 2) × (neighbours ≤ 3) × (xs ≤ 7) × (ys ≤ 7) × (p .log2 ≡ 2 → (xs ≡ 0) × (ys ≡ 0)) × Packs met × (met .count + below ≤ 16) × ((k : ℕ) → k < below → sigNumber p single neighbours xs ys k < contextCount) ⌝ }
     ensures { λ r. ⌜ ((lv : ℕ → Wanted → ℤ) → SaysPlaces r (now (contexts .exit)) (from list (now (bytes .entry)) (placesS lv (sigNumber p single neighbours xs ys) infer below (unpacked met)) x (now (contexts .entry)))) ⌝ }
 {
     let mut k = below;

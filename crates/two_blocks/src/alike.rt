@@ -1,5 +1,6 @@
 // Whether two readings of a block leave the same behind.
 use bins::state::Engine;
+use bins::tags::CONTEXTS;
 use check::same;
 use reader::block::Found;
 use reader::entries::Read;
@@ -46,7 +47,7 @@ pub fn same_answer(a: Read, b: Read) -> bool {
     }
 }
 
-pub fn same_contexts(a: &[u8; 120], b: &[u8; 120]) -> bool {
+pub fn same_contexts(a: &[u8; CONTEXTS], b: &[u8; CONTEXTS]) -> bool {
     same(a, b)
 }
 

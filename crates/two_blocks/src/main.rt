@@ -7,6 +7,7 @@ use alike::same_contexts;
 use alike::same_levels;
 use alike::same_statistics;
 use bins::state::Engine;
+use bins::tags::CONTEXTS;
 use cabac::engine::State;
 use cabac::engine::start;
 use decoder::held::block_through;
@@ -70,7 +71,7 @@ fn behind(r: Read, e: Engine) -> Engine {
 }
 
 // One block both ways; contexts and statistics go on.
-fn both(payload: &[u8], e: Engine, contexts: &mut [u8; 120], stats: &mut [u8; 4]) -> Engine {
+fn both(payload: &[u8], e: Engine, contexts: &mut [u8; CONTEXTS], stats: &mut [u8; 4]) -> Engine {
     let p = params();
     let mut held_contexts = *contexts;
     let mut held_stats = *stats;
@@ -98,7 +99,7 @@ fn run(payload: &[u8]) {
         write::line(b"no start");
         return;
     };
-    let mut contexts = [64u8; 120];
+    let mut contexts = [64u8; CONTEXTS];
     let mut stats = [0u8; 4];
     let next = both(payload, e, &mut contexts, &mut stats);
     both(payload, next, &mut contexts, &mut stats);

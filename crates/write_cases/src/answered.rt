@@ -8,18 +8,25 @@ use block_cases::answered::decimal;
 use block_cases::answered::flag;
 use block_cases::answered::text;
 use block_cases::answered::with_number;
+use block_cases::spelled::BYPASS_0;
+use block_cases::spelled::BYPASS_1;
 use block_cases::spelled::ROOM;
 use block_cases::spelled::put;
 use writer::entries::Written;
 
-// What each place of the room holds before the call: no entry of a list.
+// What each place of the room holds before the call: no byte of a list.
 pub const BEFORE: u8 = 255;
 
-fn is_bypass(e: u8) -> bool {
-    match e {
-        240..=241 => true,
-        _ => false,
+// An entry is two bytes, the low one first.
+fn entry_of(low: u8, high: u8) -> u32 {
+    low as u32 + 256 * (high as u32)
+}
+
+fn is_bypass(e: u32) -> bool {
+    if e == BYPASS_0 {
+        return true;
     }
+    e == BYPASS_1
 }
 
 fn bypass(out: &mut [u8; ROOM], at: usize, joined: bool, digit: u8) -> usize {
@@ -27,29 +34,30 @@ fn bypass(out: &mut [u8; ROOM], at: usize, joined: bool, digit: u8) -> usize {
     put(out, k, digit)
 }
 
-fn entry(out: &mut [u8; ROOM], at: usize, joined: bool, e: u8) -> usize {
-    match e {
-        240 => bypass(out, at, joined, b'0'),
-        241 => bypass(out, at, joined, b'1'),
-        _ => {
-            let k = put(out, at, b' ');
-            decimal(out, k, e as u64)
-        }
+fn entry(out: &mut [u8; ROOM], at: usize, joined: bool, e: u32) -> usize {
+    if e == BYPASS_0 {
+        return bypass(out, at, joined, b'0');
     }
+    if e == BYPASS_1 {
+        return bypass(out, at, joined, b'1');
+    }
+    let k = put(out, at, b' ');
+    decimal(out, k, e as u64)
 }
 
-// The first n entries.
+// The entries of the first n bytes.
 fn entries(out: &mut [u8; ROOM], at: usize, room: &[u8; ROOM], n: usize) -> usize {
     let mut k = at;
     let mut joined = false;
     let mut i: usize = 0;
-    while i < ROOM {
+    while i + 1 < ROOM {
         if n <= i {
             return k;
         }
-        k = entry(out, k, joined, room[i]);
-        joined = is_bypass(room[i]);
-        i += 1;
+        let e = entry_of(room[i], room[i + 1]);
+        k = entry(out, k, joined, e);
+        joined = is_bypass(e);
+        i += 2;
     }
     k
 }

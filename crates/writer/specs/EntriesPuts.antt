@@ -30,9 +30,12 @@ use Rattle.writer.specs.RoomPuts.{penAt, counted-same, counted-long, cou
 use Rattle.writer.specs.BlockPuts.{wantedOf, Spells}
 
 -- ---- the answer with document 01's numbers
+abbrev pub writtenSays : code.Written → Answer ℕ
+writtenSays (listed.List n) = accepted n
+writtenSays (listed.Refused n) = refused n
+
 abbrev pub binsWritten : code.Written → List ℕ → List ℕ → BinsWritten
-binsWritten (listed.List n) stats room = record { answer = accepted n; stats = stats; room = room }
-binsWritten (listed.Refused n) stats room = record { answer = refused n; stats = stats; room = room }
+binsWritten r stats room = record { answer = writtenSays r; stats = stats; room = room }
 
 -- ---- the checks, one before the other
 first-no : (a b c n : ℕ) → n ≡ (a orElse b) → (n ≡ 0 → ⊥) → (a orElse b orElse c) ≡ n

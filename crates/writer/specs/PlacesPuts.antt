@@ -8,7 +8,7 @@ use lib.IntN.{ℤ, pos, natAbs}
 use lib.Dec.{ltb, eqb}
 use lib.ListN.{length, getD}
 use Rattle.bins.specs.Engine.{bitNo}
-use Rattle.bins.specs.Tags.{tag}
+use Rattle.bins.specs.Tags.{contextCount, tag}
 use Rattle.bins.specs.Syn.{done, bin, _>>=_}
 use Rattle.residual.specs.Wanted.{Wanted, S, isSig, none}
 use Rattle.residual.specs.SubBlock.{placesS}
@@ -91,5 +91,5 @@ module _ (levels : List ℤ) (ctx : ℕ → ℕ) (infer : Bool) (below : ℕ) (m
           }
 
 -- a context's number that was worked out
-pub put-number : (number m : ℕ) → number ≡ m → m < 120 → number ≤ 120
+pub put-number : (number m : ℕ) → number ≡ m → m < contextCount → number < 32768
 put-number number m q h = omega arith

@@ -10,19 +10,19 @@ use lib.Seq.{drop-cons, set-append-seam}
 use lib.Dec.{ltb}
 use borrow.Author.Tests.{lt-ltb, le-ltb, ltb-true, ltb-false}
 use Rattle.pen.specs.declared.room.Pen.{Pen}
-use Rattle.pen.specs.Sheet.{Sheet, sheet, moved, entered, enteredAll}
+use Rattle.pen.specs.Sheet.{Sheet, sheet, moved, inked, enteredAll}
 
 abbrev pub penAt : ℕ → Bool → Bool → Pen
 penAt at over writing = record { at = at; over = over; writing = writing }
 
 -- ---- counted: the room stays; over tells whether the list is longer than it
 module _ (room : List ℕ) where
-  counted-one : (x at : ℕ) (over : Bool) → at < length room → entered x (sheet room (penAt at over false)) ≡ sheet room (penAt (at + 1) over false)
-  unfolding entered
+  counted-one : (x at : ℕ) (over : Bool) → at < length room → inked x (sheet room (penAt at over false)) ≡ sheet room (penAt (at + 1) over false)
+  unfolding inked
   counted-one x at over h = rw (lt-ltb at (length room) h)
 
-  counted-none : (x at : ℕ) (over : Bool) → length room ≤ at → entered x (sheet room (penAt at over false)) ≡ sheet room (penAt at true false)
-  unfolding entered
+  counted-none : (x at : ℕ) (over : Bool) → length room ≤ at → inked x (sheet room (penAt at over false)) ≡ sheet room (penAt at true false)
+  unfolding inked
   counted-none x at over h = rw (le-ltb at (length room) h)
 
   counted-fits : (l : List ℕ) (at : ℕ) (over : Bool) → at + length l ≤ length room → enteredAll l (sheet room (penAt at over false)) ≡ sheet room (penAt (at + length l) over false)
@@ -45,7 +45,7 @@ module _ (room : List ℕ) where
     where
       go : (b : Bool) → ltb at (length room) ≡ b
           → (at + 1 ≤ length room → length room < at + 1 + length l → (n : ℕ) × (enteredAll l (sheet room (penAt (at + 1) over false)) ≡ sheet room (penAt n true false)))
-          → (n : ℕ) × (enteredAll l (entered x (sheet room (penAt at over false))) ≡ sheet room (penAt n true false))
+          → (n : ℕ) × (enteredAll l (inked x (sheet room (penAt at over false))) ≡ sheet room (penAt n true false))
       go true q f =
           let i : at < length room = ltb-true at (length room) q in
           let r = f (omega arith) (omega arith) in
@@ -83,8 +83,8 @@ module _ (room : List ℕ) where
         go false q = ltb-false (length room) (length l) q
 
 -- ---- written: the list stands in front of what was there behind it
-written-one : (room : List ℕ) (x at : ℕ) (over : Bool) → at < length room → entered x (sheet room (penAt at over true)) ≡ sheet (set room at x) (penAt (at + 1) over true)
-unfolding entered
+written-one : (room : List ℕ) (x at : ℕ) (over : Bool) → at < length room → inked x (sheet room (penAt at over true)) ≡ sheet (set room at x) (penAt (at + 1) over true)
+unfolding inked
 written-one room x at over h = rw (lt-ltb at (length room) h)
 
 snoc-more : (front : List ℕ) (x : ℕ) (r : List ℕ) → (front ++ (x ∷ [])) ++ r ≡ front ++ (x ∷ r)

@@ -12,6 +12,7 @@ ghost use lib.IntN.{ℤ, pos, natAbs};
 ghost use lib.ListN.{getD};
 ghost use Rattle.bins.specs.Engine.{bitNo};
 ghost use Rattle.bins.specs.Syn.{done};
+ghost use Rattle.bins.specs.Tags.{contextCount};
 ghost use Rattle.residual.specs.Wanted.{Wanted};
 ghost use Rattle.residual.specs.SubBlock.{greater1S, firstGreater1};
 ghost use Rattle.subblock.specs.Packing.{Packs, unpack, unpacked, unmask};
@@ -51,7 +52,7 @@ pub fn put_greater1(
     base: usize,
     n: u32,
 ) -> PutGreater
-    requires { ⌜ Packs s × (base + 3 < 120) × (n ≡ min 8 (s .count)) ⌝ }
+    requires { ⌜ Packs s × (base + 3 < contextCount) × (n ≡ min 8 (s .count)) ⌝ }
     ensures { λ r. ⌜ (r .mask < 2 ^ n) × (r .carry ≤ 3) × ((lv : ℕ → Wanted → ℤ) (w : Wanted) → Shows lv w (now (levels .entry)) → Wrote (greater1S lv base 8 (unpacked s) none) (done (record { bins = unmask (r .mask) n; greater1Ctx = r .carry })) w (sheet (now (room .entry)) pen) (sheet (now (room .exit)) (r .pen))) ⌝ }
 {
     let mut mask: u32 = 0;

@@ -12,6 +12,7 @@ ghost use mathlib.Core.Bool.{Bool};
 ghost use Prim.Native.Nat.{ℕ, _+_, _≤_, _<_};
 ghost use lib.IntN.{ℤ};
 ghost use Rattle.bins.specs.Syn.{done};
+ghost use Rattle.bins.specs.Tags.{contextCount};
 ghost use Rattle.residual.specs.Wanted.{Wanted, innerOf};
 ghost use Rattle.residual.specs.SubBlock.{placesS};
 ghost use Rattle.scans.specs.Pairs.{pairsOf, mapRows};
@@ -41,7 +42,7 @@ pub fn put_places(
     below: u32,
     met: Places,
 ) -> PutPlaces
-    requires { ⌜ (now order ≡ pairsOf (innerOf p)) × (now map ≡ mapRows) × (2 ≤ p .log2) × (p .log2 ≤ 5) × (p .scan ≤ 2) × (neighbours ≤ 3) × (xs ≤ 7) × (ys ≤ 7) × (p .log2 ≡ 2 → (xs ≡ 0) × (ys ≡ 0)) × Packs met × (met .count + below ≤ 16) × ((k : ℕ) → k < below → sigNumber p single neighbours xs ys k < 120) ⌝ }
+    requires { ⌜ (now order ≡ pairsOf (innerOf p)) × (now map ≡ mapRows) × (2 ≤ p .log2) × (p .log2 ≤ 5) × (p .scan ≤ 2) × (neighbours ≤ 3) × (xs ≤ 7) × (ys ≤ 7) × (p .log2 ≡ 2 → (xs ≡ 0) × (ys ≡ 0)) × Packs met × (met .count + below ≤ 16) × ((k : ℕ) → k < below → sigNumber p single neighbours xs ys k < contextCount) ⌝ }
     ensures { λ r. ⌜ Packs (r .places) × ((lv : ℕ → Wanted → ℤ) (w : Wanted) → Shows lv w (now (levels .entry)) → Wrote (placesS lv (sigNumber p single neighbours xs ys) infer below (unpacked met)) (done (unpacked (r .places))) w (sheet (now (room .entry)) pen) (sheet (now (room .exit)) (r .pen))) ⌝ }
 {
     let mut k = below;

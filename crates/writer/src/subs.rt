@@ -23,6 +23,7 @@ ghost use mathlib.Core.Bool.{Bool, true, cond};
 ghost use Prim.Native.Nat.{ℕ, _+_, _-_, _*_, _^_, _≤_, _<_};
 ghost use lib.ListN.{length, getD};
 ghost use Rattle.bins.specs.Syn.{done};
+ghost use Rattle.bins.specs.Tags.{contextCount};
 ghost use Rattle.residual.specs.Wanted.{Wanted, area, width, outerOf, innerOf};
 ghost use Rattle.residual.specs.Scan.{spot};
 ghost use Rattle.residual.specs.Limits.{Statistics};
@@ -36,7 +37,7 @@ ghost use Rattle.writer.specs.SubsPuts.{GoesSub, GoesSubs};
 
 // coded_sub_block_flag, coded strictly between first and last.
 fn put_coded_flag(room: &mut [u8], pen: Pen, middle: bool, number: usize, flag: bool) -> Pen
-    requires { ⌜ number < 120 ⌝ }
+    requires { ⌜ number < contextCount ⌝ }
     ensures { λ r. ⌜ ((want : Wanted → Bool) (w : Wanted) → (middle ≡ true → want w ≡ flag) → Wrote (flagOr middle number want) (done (cond middle flag true)) w (sheet (now (room .entry)) pen) (sheet (now (room .exit)) r)) ⌝ }
 {
     if middle {

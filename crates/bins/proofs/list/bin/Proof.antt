@@ -8,11 +8,11 @@ use Rattle.bins.proofs.list.bin.Tie as tie
 entry-at-requires : tie.Need-entry-at-requires
 entry-at-requires c κs = search needs
 
-shared-slice-read-entry : tie.Need-shared-slice-read-entry
-shared-slice-read-entry c = search needs
+add-if1 : tie.Need-add-if1
+add-if1 c = search needs
 
-cast-entry : tie.Need-cast-entry
-cast-entry c = omega (arith, c .shared-slice-known2 .given (c .before .before .entry-at .result .0))
+tag-at-requires : tie.Need-tag-at-requires
+tag-at-requires c κs = search needs
 
 mul-if2 : tie.Need-mul-if2
 mul-if2 c = search needs
@@ -21,7 +21,7 @@ next-entry-requires : tie.Need-next-entry-requires
 next-entry-requires c κs = search needs
 
 returns : tie.Need-returns
-returns c = let a = c .before .before .before .before .before .before .before .args in entry-zero (a .bytes .now) (a .x) _ (c .before .before .before .before .entry-at .ensures) (a .number) _ (c .before .before .before .if1 .taken) (c .before .if2 .taken) (c .next-entry .ensures)
+returns c = let a = c .before .before .before .before .before .before .before .args in entry-zero (a .bytes .now) (a .x) _ (c .before .before .before .before .entry-at .ensures) (a .number) _ _ (c .before .before .before .if1 .taken) (c .before .before .tag-at .ensures) (c .before .if2 .taken) (c .next-entry .ensures)
 
 mul-if3 : tie.Need-mul-if3
 mul-if3 c = search needs
@@ -33,10 +33,10 @@ next-entry-requires-2 : tie.Need-next-entry-requires-2
 next-entry-requires-2 c κs = search needs
 
 returns-2 : tie.Need-returns-2
-returns-2 c = let a = c .before .before .before .before .before .before .before .before .args in entry-one (a .bytes .now) (a .x) _ (c .before .before .before .before .before .entry-at .ensures) (a .number) _ (c .before .before .before .before .if1 .taken) (c .before .if3 .taken) (c .next-entry2 .ensures)
+returns-2 c = let a = c .before .before .before .before .before .before .before .before .args in entry-one (a .bytes .now) (a .x) _ (c .before .before .before .before .before .entry-at .ensures) (a .number) _ _ (c .before .before .before .before .if1 .taken) (c .before .before .before .tag-at .ensures) (c .before .if3 .taken) (c .next-entry2 .ensures)
 
 returns-3 : tie.Need-returns-3
-returns-3 c = let a = c .before .before .before .before .before .before .before .args in entry-other (a .bytes .now) (a .x) _ (c .before .before .before .before .entry-at .ensures) (a .number) (c .before .before .before .if1 .taken) (c .before .if2 .left) (c .if3 .left)
+returns-3 c = let a = c .before .before .before .before .before .before .before .args in entry-other (a .bytes .now) (a .x) _ (c .before .before .before .before .entry-at .ensures) (a .number) _ (c .before .before .before .if1 .taken) (c .before .before .tag-at .ensures) (c .before .if2 .left) (c .if3 .left)
 
 returns-4 : tie.Need-returns-4
 returns-4 c = let a = c .before .before .before .before .args in entry-none (a .bytes .now) (a .x) _ (c .before .entry-at .ensures) (a .number) (c .if1 .left)
@@ -46,8 +46,8 @@ bin-spec =
     tie.close
     (tie.spec
     entry-at-requires
-    shared-slice-read-entry
-    cast-entry
+    add-if1
+    tag-at-requires
     mul-if2
     next-entry-requires
     returns

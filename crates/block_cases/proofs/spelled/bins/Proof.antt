@@ -5,10 +5,10 @@ use Rattle.block_cases.proofs.spelled.bins.Statement.{statement}
 use Rattle.block_cases.proofs.spelled.bins.Tie as tie
 
 abbrev Inv-loop : tie.InvT-loop
-Inv-loop s out₀ at₀ k₀ out at k = k ≤ 512
+Inv-loop s out₀ at₀ k₀ out at k = k ≤ 1024
 
 abbrev μ-loop : tie.MeasureT-loop
-μ-loop s out₀ at₀ k₀ out at k = 512 - k
+μ-loop s out₀ at₀ k₀ out at k = 1024 - k
 
 loop-holds : tie.Need-loop-holds Inv-loop μ-loop
 loop-holds c = search needs

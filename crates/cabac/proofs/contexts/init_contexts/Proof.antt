@@ -4,6 +4,7 @@ use Prim.Native.Nat.{_-_}
 use mathlib.Core.Path.{refl}
 use lib.ListN.{length}
 use borrow.Author.Tests.{eq-eqb, ne-eqb}
+use Rattle.bins.specs.Tags.{contextCount}
 use Rattle.cabac.specs.Entries.{valuesRefusal, contextsAfter, statisticsAfter}
 use Rattle.cabac.specs.EntryLaws.{Inited, inited-again, inited-all}
 use Rattle.cabac.proofs.contexts.init_contexts.Statement.{statement}
@@ -13,7 +14,7 @@ abbrev Inv-loop : tie.InvT-loop
 Inv-loop contexts statistics values q fresh₀ i₀ fresh i = Inited values q i fresh
 
 abbrev μ-loop : tie.MeasureT-loop
-μ-loop contexts statistics values q fresh₀ i₀ fresh i = 120 - i
+μ-loop contexts statistics values q fresh₀ i₀ fresh i = contextCount - i
 
 returns : tie.Need-returns Inv-loop μ-loop
 unfolding valuesRefusal contextsAfter statisticsAfter
@@ -42,7 +43,7 @@ loop-again c = let a = c .before .before .before .before .before .before .args i
 
 returns-2 : tie.Need-returns-2 Inv-loop μ-loop
 unfolding valuesRefusal contextsAfter statisticsAfter
-returns-2 c = let a = c .before .before .before .before .before .args in let t = c .before .before .loop in (rw (eq-eqb (length (a .values .now)) 120 (omega arith)), inited-all (a .values .now) (t .fresh) (a .q) (t .i) (t .inv) (omega arith) (omega arith), refl)
+returns-2 c = let a = c .before .before .before .before .before .args in let t = c .before .before .loop in (rw (eq-eqb (length (a .values .now)) contextCount (omega arith)), inited-all (a .values .now) (t .fresh) (a .q) (t .i) (t .inv) (omega arith) (omega arith), refl)
 
 pub init-contexts-spec : {M : Type 1} → statement M
 init-contexts-spec =

@@ -40,6 +40,7 @@ use denote.Triple.Table.{entered, cited}
 use denote.Triple.Walked.{says, Stays, stay-none, stay-none-slice, gave-ref, gave-slice, walkOf, goes-none, goes-none-slice, goes-gave-ref, goes-gave-slice, Walks, ends-at, walked, walk-meets}
 use denote.Exit.{yes}
 use denote.Triple.Clauses.{ensured, lasts}
+use Rattle.bins.specs.Tags.{contextCount}
 use Rattle.bins.proofs.state.Engine as E
 use Rattle.bins.proofs.state.Engine.Laws as E′
 use Rattle.bins.specs.declared.state.Engine.{Engine}
@@ -81,7 +82,7 @@ stayed = (
   (
     stay-none (λ _. E.the-row) yes,
     (
-      gave-ref (1 ∷ []) tt (BytesS 120),
+      gave-ref (1 ∷ []) tt (BytesS contextCount),
       (
         gave-ref (2 ∷ []) tt (BytesS 4),
         (stay-none (λ _. P.the-row) yes, (gave-slice (3 ∷ []) tt (plain (λ _. i32)), tt)),
@@ -135,7 +136,7 @@ module _ {M : Type 1} (𝓤 : URA M) (H : Heap 𝓤) (A : Atoms 𝓤) (W : Given
 
   -- the types of what is lent with the parameters, and what is said of an answer at a payload and a state
   abbrev lent : List RattleType
-  lent = MutRef (named 1) κ₁ (Bytes 120) ∷ MutRef (named 2) κ₂ (Bytes 4) ∷ P.the-row ∷ MutSlice (named 3) κ₃ i32 ∷ []
+  lent = MutRef (named 1) κ₁ (Bytes contextCount) ∷ MutRef (named 2) κ₂ (Bytes 4) ∷ P.the-row ∷ MutSlice (named 3) κ₃ i32 ∷ []
 
   abbrev Said : List ℕ → Engine → Read → List ℕ → List ℕ → List ℤ → Type 0
   Said payload state t contexts stats block = payloadRead t contexts stats block ≡ readPayload payload state (now c) (now s) p (now b)
@@ -169,11 +170,11 @@ module _ {M : Type 1} (𝓤 : URA M) (H : Heap 𝓤) (A : Atoms 𝓤) (W : Given
   exits : Is E.the-row st (E′.lowered st ∷ []) → Is P.the-row p (P′.lowered p ∷ [])
       → (t : Read) (u : Val) (contexts stats : List ℕ) (block : List ℤ) → Said (now y) st t contexts stats block → length block ≡ length (b .now)
       → ent 𝓤 (⋆ 𝓤 H A (‵ (S.the-row .own t (u ∷ [])) ∷ (‵ (flft κ₀ q₀) ⊛ ‵ (flft κ₁ q₁) ⊛ ‵ (flft κ₂ q₂) ⊛ ‵ (flft κ₃ q₃) ⊛ ‵ ftrue) ∷ ‵
-      (finally i32 (b .name) block) ∷ ‵ (fres (s .name) (Bytes 4 .coded .code stats)) ∷ ‵ (fres (c .name) (Bytes 120 .coded .code contexts)) ∷ ‵ Own
+      (finally i32 (b .name) block) ∷ ‵ (fres (s .name) (Bytes 4 .coded .code stats)) ∷ ‵ (fres (c .name) (Bytes contextCount .coded .code contexts)) ∷ ‵ Own
       ∷ [])) (Post u)
   exits pe pp t u contexts stats block e l =
       qed W (‵ (S.the-row .own t (u ∷ [])) ∷ (‵ (flft κ₀ q₀) ⊛ ‵ (flft κ₁ q₁) ⊛ ‵ (flft κ₂ q₂) ⊛ ‵ (flft κ₃ q₃) ⊛ ‵ ftrue) ∷ ‵
-      (finally i32 (b .name) block) ∷ ‵ (fres (s .name) (Bytes 4 .coded .code stats)) ∷ ‵ (fres (c .name) (Bytes 120 .coded .code contexts)) ∷ ‵ Own
+      (finally i32 (b .name) block) ∷ ‵ (fres (s .name) (Bytes 4 .coded .code stats)) ∷ ‵ (fres (c .name) (Bytes contextCount .coded .code contexts)) ∷ ‵ Own
       ∷ []) ∵
       suffices ! _ (ends-at 𝓤 H A through.ended stayed (through.clauses 𝓤 H A mem run) W ((κs, qs, tt, (y, (st, (c, (s, (p, (b, tt)))))), at), tt) u
       t (tt, (tt, (contexts, (stats, (tt, (block, tt)))))) (tt, (tt, (tt, (tt, (tt, (l, tt))))))) $ says ! e $
@@ -260,7 +261,7 @@ module _ {M : Type 1} (𝓤 : URA M) (H : Heap 𝓤) (A : Atoms 𝓤) (W : Given
         (
           LL.tells E.the-type E′.the-laws,
           (
-            mut-tells (named 1) (κs .1 .0) (Bytes 120),
+            mut-tells (named 1) (κs .1 .0) (Bytes contextCount),
             (mut-tells (named 2) (κs .1 .1 .0) (Bytes 4), (LL.tells P.the-type P′.the-laws, (mut-slice-tells (named 3) (κs .1 .1 .1 .0) i32, tt))),
           ),
         ),
@@ -279,7 +280,7 @@ meets 𝓤 H A W mem run 𝓣 known-new known-coding =
       (
         goes-none 𝓤 H A W 4 (λ _. E.the-row) yes (λ κs x f. refl),
         (
-          goes-gave-ref 𝓤 H A W 4 1 tt (BytesS 120),
+          goes-gave-ref 𝓤 H A W 4 1 tt (BytesS contextCount),
           (
             goes-gave-ref 𝓤 H A W 4 2 tt (BytesS 4),
             (goes-none 𝓤 H A W 4 (λ _. P.the-row) yes (λ κs x f. refl), (goes-gave-slice 𝓤 H A W 4 3 tt (plain (λ _. i32)), tt)),

@@ -19,14 +19,14 @@ bin-number-requires c κs = search needs
 add-tag : tie.Need-add-tag
 add-tag c = search needs
 
-put-requires : tie.Need-put-requires
-put-requires c κs = search needs
+put-entry-requires : tie.Need-put-entry-requires
+put-entry-requires c κs = search needs
 
 same-length : tie.Need-same-length
 same-length c = search needs
 
 returns : tie.Need-returns
-returns c = let a = c .before .before .before .before .before .before .args in c .before .before .put .ensures ∙ ap (λ x. entered (2 * a .number + x) (sheet (a .room .now) (a .pen))) (c .before .before .before .before .bin-number .ensures .0)
+returns c = let a = c .before .before .before .before .before .before .args in c .before .before .put-entry .ensures ∙ ap (λ x. entered (2 * a .number + x) (sheet (a .room .now) (a .pen))) (c .before .before .before .before .bin-number .ensures .0)
 
 pub put-bin-spec : {M : Type 1} → statement M
 put-bin-spec =
@@ -36,6 +36,6 @@ put-bin-spec =
     mul-tag
     bin-number-requires
     add-tag
-    put-requires
+    put-entry-requires
     same-length
     returns)

@@ -4,6 +4,7 @@ use mathlib.Core.Path.{_≡_, refl, sym, subst, _∙_}
 use mathlib.Core.List.{List}
 use native.Mathlib.Omega.{arith}
 use lib.ListN.{length, replicate}
+use Rattle.bins.specs.Tags.{contextCount}
 use Rattle.bins.specs.declared.state.Interval.{Interval}
 use Rattle.residual.specs.Wanted.{area}
 use Rattle.reader.specs.EntriesAgree.{binsChecks}
@@ -17,7 +18,7 @@ abbrev front : Interval
 front = record { range = 256; offset = 0; at = record { 0 = 0 } }
 
 abbrev zeros : List ℕ
-zeros = replicate 120 0
+zeros = replicate contextCount 0
 
 abbrev start1 : tie.After-read-into → tie.Start
 start1 c = c .before .before .before .before .before .before .before .before .before .before .before
@@ -40,7 +41,7 @@ read-into-requires : tie.Need-read-into-requires
 read-into-requires c κs =
     let a = c .before .before .before .before .before .before .before .before .before .before .args in
     let s = bins-passed (a .bytes .now) (a .stats .now) (a .p) (a .block .now) (sym (c .before .before .before .before .if1 .left) ∙ c .before .before .before .before .before .bins-checks .ensures) in
-    ((omega arith, zeros-packed 120), s .accepted, s .room, s .statistics)
+    ((omega arith, zeros-packed contextCount), s .accepted, s .room, s .statistics)
 
 enum-known-r : tie.Need-enum-known-r
 enum-known-r c = search needs
@@ -87,7 +88,7 @@ returns-3 c =
     let r = d .read-into in
     let a = start1 d .args in
     bins-over (a .bytes .now) (a .stats .now) (a .p) (a .block .now) (passed1 d) front refl zeros (r .result) (r .last .1 .0) (r .last .1 .1 .0) (r .last .1 .1 .1 .1 .1 .0) (r .ensures) (g .0 .0) (g .0 .1 .0) (g .1)
-    (omega arith, zeros-packed 120) (c .before .before .before .before .if2 .taken) (n .result) (n .ensures) (c .before .clear .last .0) (c .before .clear .ensures)
+    (omega arith, zeros-packed contextCount) (c .before .before .before .before .if2 .taken) (n .result) (n .ensures) (c .before .clear .last .0) (c .before .clear .ensures)
 
 same-length-4 : tie.Need-same-length-4
 same-length-4 c = search needs

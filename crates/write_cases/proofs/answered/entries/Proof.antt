@@ -5,25 +5,34 @@ use Rattle.write_cases.proofs.answered.entries.Statement.{statement}
 use Rattle.write_cases.proofs.answered.entries.Tie as tie
 
 abbrev Inv-loop : tie.InvT-loop
-Inv-loop out₀ at room n k₀ joined₀ i₀ out k joined i = i ≤ 512
+Inv-loop out₀ at room n k₀ joined₀ i₀ out k joined i = i ≤ 1024
 
 abbrev μ-loop : tie.MeasureT-loop
-μ-loop out₀ at room n k₀ joined₀ i₀ out k joined i = 512 - i
+μ-loop out₀ at room n k₀ joined₀ i₀ out k joined i = 1024 - i
 
 loop-holds : tie.Need-loop-holds Inv-loop μ-loop
 loop-holds c = search needs
 
+add-loop : tie.Need-add-loop Inv-loop μ-loop
+add-loop c = search needs
+
 returns : tie.Need-returns Inv-loop μ-loop
 returns c = search needs
 
-element-copy-out-entry : tie.Need-element-copy-out-entry Inv-loop μ-loop
-element-copy-out-entry c = search needs
+element-copy-out-entry-of : tie.Need-element-copy-out-entry-of Inv-loop μ-loop
+element-copy-out-entry-of c = search needs
+
+add-entry-of : tie.Need-add-entry-of Inv-loop μ-loop
+add-entry-of c = search needs
+
+element-copy-out-entry-of-2 : tie.Need-element-copy-out-entry-of-2 Inv-loop μ-loop
+element-copy-out-entry-of-2 c = search needs
+
+entry-of-requires : tie.Need-entry-of-requires Inv-loop μ-loop
+entry-of-requires c κs = search needs
 
 entry-requires : tie.Need-entry-requires Inv-loop μ-loop
 entry-requires c κs = search needs
-
-element-copy-out-is-bypass : tie.Need-element-copy-out-is-bypass Inv-loop μ-loop
-element-copy-out-is-bypass c = search needs
 
 is-bypass-requires : tie.Need-is-bypass-requires Inv-loop μ-loop
 is-bypass-requires c κs = search needs
@@ -47,10 +56,13 @@ entries-spec =
     Inv-loop
     μ-loop
     loop-holds
+    add-loop
     returns
-    element-copy-out-entry
+    element-copy-out-entry-of
+    add-entry-of
+    element-copy-out-entry-of-2
+    entry-of-requires
     entry-requires
-    element-copy-out-is-bypass
     is-bypass-requires
     add-i
     loop-less

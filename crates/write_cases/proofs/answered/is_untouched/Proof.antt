@@ -5,10 +5,10 @@ use Rattle.write_cases.proofs.answered.is_untouched.Statement.{statemen
 use Rattle.write_cases.proofs.answered.is_untouched.Tie as tie
 
 abbrev Inv-loop : tie.InvT-loop
-Inv-loop room from i₀ i = i ≤ 512
+Inv-loop room from i₀ i = i ≤ 1024
 
 abbrev μ-loop : tie.MeasureT-loop
-μ-loop room from i₀ i = 512 - i
+μ-loop room from i₀ i = 1024 - i
 
 loop-holds : tie.Need-loop-holds Inv-loop μ-loop
 loop-holds c = search needs

@@ -42,6 +42,7 @@ use denote.Triple.Table.{entered, cited}
 use denote.Triple.Walked.{says, Stays, stay-none, gave-ref, gave-slice, walkOf, goes-none, goes-gave-ref, goes-gave-slice, Walks, ends-at, walked, walk-meets}
 use denote.Exit.{yes}
 use denote.Triple.Clauses.{ensured, lasts}
+use Rattle.bins.specs.Tags.{contextCount}
 use Rattle.bins.proofs.state.Engine as E
 use Rattle.bins.proofs.state.Engine.Laws as E′
 use Rattle.residual.specs.declared.params.Params.{Params}
@@ -75,7 +76,7 @@ abbrev stayed : Stays (method.ended .signature .params) (method.ended .kept)
 stayed = (
   stay-none (λ κs. B (κs .0, tt)) yes,
   (
-    gave-ref (1 ∷ []) tt (BytesS 120),
+    gave-ref (1 ∷ []) tt (BytesS contextCount),
     (
       gave-ref (2 ∷ []) tt (BytesS 4),
       (stay-none (λ _. P.the-row) yes, (gave-slice (3 ∷ []) tt (plain (λ _. i32)), tt)),
@@ -135,7 +136,7 @@ module _ {M : Type 1} (𝓤 : URA M) (H : Heap 𝓤) (A : Atoms 𝓤) (W : Given
 
   -- the types of what is lent, with the parameters
   abbrev lent : List RattleType
-  lent = MutRef (named 1) κ₁ (Bytes 120) ∷ MutRef (named 2) κ₂ (Bytes 4) ∷ P.the-row ∷ MutSlice (named 3) κ₃ i32 ∷ []
+  lent = MutRef (named 1) κ₁ (Bytes contextCount) ∷ MutRef (named 2) κ₂ (Bytes 4) ∷ P.the-row ∷ MutSlice (named 3) κ₃ i32 ∷ []
 
   asked : ent 𝓤 (onEntry 𝓤 H A entry.signature κs qs (d .payload, (d .state, (c, (s, (p, (b, tt)))))) passed) (Entry 𝓤 H A mem run .pre to)
   asked = qed W ((‵ (flft κ₀ q₀) ⊛ ‵ (flft κ₁ q₁) ⊛ ‵ (flft κ₂ q₂) ⊛ ‵ (flft κ₃ q₃) ⊛ ‵ ftrue) ∷ ‵
@@ -157,11 +158,11 @@ module _ {M : Type 1} (𝓤 : URA M) (H : Heap 𝓤) (A : Atoms 𝓤) (W : Given
   exits : Is P.the-row p (P′.lowered p ∷ []) → (r : Read) (u : Val) (contexts stats : List ℕ) (block : List ℤ) → Said r contexts stats block
       → length block ≡ length (b .now)
       → ent 𝓤 (⋆ 𝓤 H A (‵ (S.the-row .own r (u ∷ [])) ∷ (‵ (flft κ₀ q₀) ⊛ ‵ (flft κ₁ q₁) ⊛ ‵ (flft κ₂ q₂) ⊛ ‵ (flft κ₃ q₃) ⊛ ‵ ftrue) ∷ ‵
-      (finally i32 (b .name) block) ∷ ‵ (fres (s .name) (Bytes 4 .coded .code stats)) ∷ ‵ (fres (c .name) (Bytes 120 .coded .code contexts)) ∷ ‵ Own
+      (finally i32 (b .name) block) ∷ ‵ (fres (s .name) (Bytes 4 .coded .code stats)) ∷ ‵ (fres (c .name) (Bytes contextCount .coded .code contexts)) ∷ ‵ Own
       ∷ [])) (Post u)
   exits pp r u contexts stats block e l =
       qed W (‵ (S.the-row .own r (u ∷ [])) ∷ (‵ (flft κ₀ q₀) ⊛ ‵ (flft κ₁ q₁) ⊛ ‵ (flft κ₂ q₂) ⊛ ‵ (flft κ₃ q₃) ⊛ ‵ ftrue) ∷ ‵
-      (finally i32 (b .name) block) ∷ ‵ (fres (s .name) (Bytes 4 .coded .code stats)) ∷ ‵ (fres (c .name) (Bytes 120 .coded .code contexts)) ∷ ‵ Own
+      (finally i32 (b .name) block) ∷ ‵ (fres (s .name) (Bytes 4 .coded .code stats)) ∷ ‵ (fres (c .name) (Bytes contextCount .coded .code contexts)) ∷ ‵ Own
       ∷ []) ∵
       suffices ! _ (ends-at 𝓤 H A method.ended stayed (method.clauses 𝓤 H A mem run) W ((κs, qs, tt, (d, (c, (s, (p, (b, tt))))), at), tt) u r
       (tt, (contexts, (stats, (tt, (block, tt))))) (tt, (tt, (tt, (tt, (l, tt)))))) $ says ! e $
@@ -229,7 +230,7 @@ module _ {M : Type 1} (𝓤 : URA M) (H : Heap 𝓤) (A : Atoms 𝓤) (W : Given
       (λ κs. (
         LL.tells (D (κs .0, tt)) (L (κs .0, tt)),
         (
-          mut-tells (named 1) (κs .1 .0) (Bytes 120),
+          mut-tells (named 1) (κs .1 .0) (Bytes contextCount),
           (mut-tells (named 2) (κs .1 .1 .0) (Bytes 4), (LL.tells P.the-type P′.the-laws, (mut-slice-tells (named 3) (κs .1 .1 .1 .0) i32, tt))),
         ),
       ))
@@ -245,7 +246,7 @@ meets 𝓤 H A W mem run 𝓣 known =
     walk-meets 𝓤 H A method.ended stayed W (
       goes-none 𝓤 H A W 4 (λ κs. B (κs .0, tt)) yes (λ κs x f. refl),
       (
-        goes-gave-ref 𝓤 H A W 4 1 tt (BytesS 120),
+        goes-gave-ref 𝓤 H A W 4 1 tt (BytesS contextCount),
         (
           goes-gave-ref 𝓤 H A W 4 2 tt (BytesS 4),
           (goes-none 𝓤 H A W 4 (λ _. P.the-row) yes (λ κs x f. refl), (goes-gave-slice 𝓤 H A W 4 3 tt (plain (λ _. i32)), tt)),

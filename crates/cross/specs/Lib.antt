@@ -1,0 +1,6 @@
+pub mod Scale
+pub mod Entries
+pub mod ScaleLaws
+pub mod EntryLaws
+pub mod Exact
+pub mod Cases

@@ -1,0 +1,7 @@
+pub mod Agree
+pub mod CodeLaws
+pub mod EntriesAgree
+pub mod EntriesLaws
+pub mod WriteAgree
+pub mod WriteLaws
+pub mod Demand3
