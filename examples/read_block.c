@@ -12,6 +12,10 @@ int main(void) {
     const uint8_t payload[] = {0xfe, 0x80};
     uint8_t values[BULMEGART_CONTEXTS], contexts[BULMEGART_CONTEXTS], statistics[BULMEGART_STATISTICS];
     int32_t levels[16];
+    if (bulmegart_version() != BULMEGART_VERSION) {
+        puts("the archive is of another version than the header");
+        return 1;
+    }
     memset(values, 154, sizeof values);
     uint32_t number = bulmegart_init_contexts(contexts, statistics, values, sizeof values, 26);
     if (number != BULMEGART_ACCEPTED) return refused(number);
@@ -19,7 +23,7 @@ int main(void) {
     if (start.number != BULMEGART_ACCEPTED) return refused(start.number);
     bulmegart_params params = {.log2 = 2, .scan = 0, .depth = 8, .luma = 1};
     bulmegart_block_answer block =
-        bulmegart_read_block(payload, sizeof payload, start.state, contexts, statistics, params, levels, 16);
+        bulmegart_residual_coding(payload, sizeof payload, start.state, contexts, statistics, params, levels, 16);
     if (block.number != BULMEGART_ACCEPTED) return refused(block.number);
     printf("greatest magnitude %u, column extent %u, row extent %u, bits drawn %zu, bits past the end %u\n", block.found.greatest,
            block.found.column, block.found.row, block.state.position, block.state.past);

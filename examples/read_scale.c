@@ -17,7 +17,7 @@ int main(void) {
     if (start.number != BULMEGART_ACCEPTED) return refused(start.number);
     bulmegart_scale_answer read = bulmegart_read_scale(payload, sizeof payload, start.state, contexts, component);
     if (read.number != BULMEGART_ACCEPTED) return refused(read.number);
-    bulmegart_write_answer written = bulmegart_write_scale(component, read.scale, list, sizeof list);
+    bulmegart_write_answer written = bulmegart_write_scale_bins(component, read.scale, list, sizeof list);
     if (written.number != BULMEGART_ACCEPTED) return refused(written.number);
     printf("scale %d, bits drawn %zu, list of %zu bytes:", read.scale, read.state.position, written.length);
     for (size_t i = 0; i + 1 < written.length; i += 2) printf(" %u", (unsigned)(list[i] + 256 * list[i + 1]));

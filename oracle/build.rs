@@ -1,5 +1,7 @@
 // Finds the Rust that is compared with: BULMEGART_PEER names the folder that has the four files, else it is ../shared/docs/src beside the repository.
+// Makes of its contexts.rs what docs/BENCH.md makes of it.
 use std::env;
+use std::fs;
 use std::path::PathBuf;
 
 fn main() {
@@ -14,4 +16,10 @@ fn main() {
     println!("cargo:rerun-if-env-changed=BULMEGART_PEER");
     println!("cargo:rerun-if-changed={}", folder.display());
     println!("cargo:rustc-env=PEER={}", folder.display());
+    let contexts = fs::read_to_string(folder.join("src--src--cabac--contexts.rs.txt")).unwrap();
+    let begun = contexts.find("#[derive(Clone, Copy, Debug)]\n#[repr(transparent)]").expect("CtxModel");
+    let ended = contexts.find("/// All context models for I-slice residual coding").expect("ContextSet");
+    let swapped = format!("pub use bulmegart::swap::contexts::CtxModel;\n{}bulmegart::residual_contexts!(ContextSet);\n", &contexts[ended..]);
+    assert!(begun < ended);
+    fs::write(PathBuf::from(env::var("OUT_DIR").unwrap()).join("contexts.rs"), swapped).unwrap();
 }

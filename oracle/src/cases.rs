@@ -6,42 +6,47 @@ use std::collections::BTreeMap;
 
 /// What a place that is lent holds before a call.
 const MARK: i32 = 0x5a5a_5a5a;
-const HELD: u8 = 0xa5;
-const FILES: [&str; 3] = ["engine.txt", "extents.txt", "cross.txt"];
+pub const HELD: u8 = 0xa5;
+const FILES: [&str; 9] = ["engine.txt", "extents.txt", "cross.txt", "plain.txt", "tray.txt", "depend.txt", "pack.txt", "kept.txt", "figures.txt"];
 /// Requests whose functions the archive doesn't have yet.
-const LATER: [&str; 1] = ["pack"];
+const LATER: [&str; 0] = [];
+
+/// Numbers parted by commas.
+fn listed<const N: usize>(text: &str) -> [usize; N] {
+    let all: Vec<usize> = text.split(',').map(|v| v.parse().unwrap()).collect();
+    all.try_into().unwrap()
+}
 
 /// What stands left of the arrow.
-struct Asked<'a>(BTreeMap<&'a str, &'a str>);
+pub struct Asked<'a>(BTreeMap<&'a str, &'a str>);
 
 impl Asked<'_> {
-    fn get(&self, key: &str) -> Option<&str> {
+    pub fn get(&self, key: &str) -> Option<&str> {
         self.0.get(key).copied()
     }
 
-    fn number(&self, key: &str, otherwise: i64) -> i64 {
+    pub fn number(&self, key: &str, otherwise: i64) -> i64 {
         self.get(key).map_or(otherwise, |v| v.parse().unwrap())
     }
 
     fn numbers<const N: usize>(&self, key: &str) -> Option<[usize; N]> {
-        let all: Vec<usize> = self.get(key)?.split(',').map(|v| v.parse().unwrap()).collect();
-        Some(all.try_into().unwrap())
+        Some(listed(self.get(key)?))
     }
 
-    fn bytes(&self, key: &str) -> Vec<u8> {
+    pub fn bytes(&self, key: &str) -> Vec<u8> {
         hex(self.get(key).unwrap())
     }
 
-    fn contexts(&self) -> [u8; CONTEXTS] {
+    pub fn contexts(&self) -> [u8; CONTEXTS] {
         self.get("ctx").map_or([64; CONTEXTS], |v| hex(v).try_into().unwrap())
     }
 
-    fn statistics(&self) -> [u8; STATISTICS] {
+    pub fn statistics(&self) -> [u8; STATISTICS] {
         self.get("stats").map_or([0; STATISTICS], |v| hex(v).try_into().unwrap())
     }
 
     /// As it is, or fresh from start.
-    fn state(&self, payload: &[u8]) -> Result<State, Refusal> {
+    pub fn state(&self, payload: &[u8]) -> Result<State, Refusal> {
         match self.numbers::<5>("state") {
             Some([range, offset, position, ended, past]) => {
                 Ok(State { range: range as u32, offset: offset as u32, position, ended: ended == 1, past: past as u32 })
@@ -50,25 +55,8 @@ impl Asked<'_> {
         }
     }
 
-    fn params(&self) -> Params {
-        let p = self.numbers::<14>("p").unwrap_or([2, 1, 0, 0, 0, 0, 0, 0, 0, 0, 0, 0, 0, 8]);
-        let on = |k: usize| p[k] == 1;
-        Params {
-            log2: p[0] as u32,
-            luma: on(1),
-            scan: p[2] as u32,
-            hiding: on(3),
-            skip_allowed: on(4),
-            lossless: on(5),
-            persistent: on(6),
-            skip_context: on(7),
-            explicit_rdpcm: on(8),
-            implicit_rdpcm: on(9),
-            inter: on(10),
-            aligning: on(11),
-            extended: on(12),
-            depth: p[13] as u32,
-        }
+    pub fn params(&self) -> Params {
+        self.get("p").map_or(Params::plain(2), params_of)
     }
 
     fn area(&self) -> usize {
@@ -80,7 +68,7 @@ impl Asked<'_> {
     }
 
     /// The list, in either form.
-    fn list(&self) -> Vec<u8> {
+    pub fn list(&self) -> Vec<u8> {
         match self.get("list1") {
             Some(one) => hex(one).iter().flat_map(|&b| if b < 240 { b as u16 } else { BYPASS_ENTRY + b as u16 - 240 }.to_le_bytes()).collect(),
             None => self.bytes("list"),
@@ -88,11 +76,33 @@ impl Asked<'_> {
     }
 }
 
-fn state_text(s: &State) -> String {
+/// The fourteen of the key `p`.
+pub fn params_of(numbers: &str) -> Params {
+    let p: Vec<u32> = numbers.split(',').map(|v| v.parse().unwrap()).collect();
+    let on = |k: usize| p[k] == 1;
+    Params {
+        log2: p[0],
+        luma: on(1),
+        scan: p[2],
+        hiding: on(3),
+        skip_allowed: on(4),
+        lossless: on(5),
+        persistent: on(6),
+        skip_context: on(7),
+        explicit_rdpcm: on(8),
+        implicit_rdpcm: on(9),
+        inter: on(10),
+        aligning: on(11),
+        extended: on(12),
+        depth: p[13],
+    }
+}
+
+pub fn state_text(s: &State) -> String {
     format!("{},{},{},{},{}", s.range, s.offset, s.position, s.ended as u32, s.past)
 }
 
-fn changes(before: &[u8], after: &[u8]) -> String {
+pub fn changes(before: &[u8], after: &[u8]) -> String {
     let changed: Vec<String> = (0..before.len()).filter(|&k| before[k] != after[k]).map(|k| format!("{k}:{:02x}", after[k])).collect();
     if changed.is_empty() { "-".into() } else { changed.join(",") }
 }
@@ -132,27 +142,28 @@ fn answer(kind: &str, a: &Asked) -> Result<String, (Refusal, String)> {
     match kind {
         "decision" => {
             let mut context = a.number("context", 0) as u8;
-            let r = decision(&payload, s, &mut context).map(|(bin, s)| (bin as u32, s));
+            let r = decode_bin(&payload, s, &mut context).map(|(bin, s)| (bin as u32, s));
             bins(r).map(|t| format!("{t} context={context}")).map_err(bare)
         }
         "bypass" => {
-            let r = bypass(&payload, s, count);
-            if count == 1 && r != bypass_bin(&payload, s).map(|(bin, s)| (bin as u32, s)) {
+            let r = decode_bypass_bits(&payload, s, count);
+            if count == 1 && r != decode_bypass(&payload, s).map(|(bin, s)| (bin as u32, s)) {
                 return Ok("one bin is another".into());
             }
             bins(r).map_err(bare)
         }
-        "raw" => bins(raw_bits(&payload, s, count)).map_err(bare),
-        "terminate" => bins(terminate(&payload, s).map(|(bin, s)| (bin as u32, s))).map_err(bare),
+        "raw" => bins(read_bits(&payload, s, count)).map_err(bare),
+        "terminate" => bins(decode_terminate(&payload, s).map(|(bin, s)| (bin as u32, s))).map_err(bare),
         "align" => match (byte_align(&payload, s), rest(&payload, s)) {
             (Ok(next), Ok(left)) => Ok(format!("rest={} state={}", payload.len() - left.len(), state_text(&next))),
             (Err(r), Err(q)) if r == q => Err(bare(r)),
             other => Ok(format!("{other:?}")),
         },
         "restart" => restart(&payload, s).map(|s| format!("state={}", state_text(&s))).map_err(bare),
-        "block" => {
+        "block" | "plainblock" => {
             let mut lent = vec![MARK; a.places()];
-            match read_block(&payload, s, &mut contexts, &mut statistics, a.params(), &mut lent) {
+            let reader = if kind == "block" { residual_coding } else { plain::residual_coding_plain };
+            match reader(&payload, s, &mut contexts, &mut statistics, a.params(), &mut lent) {
                 Ok((f, next)) => Ok(format!(
                     "{} levels={} state={} changes={} stats={}",
                     found_text(&f),
@@ -165,15 +176,16 @@ fn answer(kind: &str, a: &Asked) -> Result<String, (Refusal, String)> {
                 Err(r) => Err((r, " contexts or statistics changed".into())),
             }
         }
-        "list" => {
+        "list" | "plainlist" => {
             let mut lent = vec![MARK; a.places()];
-            match read_bins(&a.list(), &mut statistics, a.params(), &mut lent) {
+            let reader = if kind == "list" { read_bins } else { plain::read_bins_plain };
+            match reader(&a.list(), &mut statistics, a.params(), &mut lent) {
                 Ok(f) => Ok(format!("{} levels={} stats={}", found_text(&f), levels_text(&lent[..a.area()]), text(&statistics))),
                 Err(r) if statistics == a.statistics() => Err((r, format!(" memory={}", memory(&lent, a.area())))),
                 Err(r) => Err((r, " statistics changed".into())),
             }
         }
-        "write" => {
+        "write" | "plainwrite" => {
             let mut levels = vec![0; a.places()];
             for level in a.get("levels").unwrap().split(',').filter(|&l| l != "-") {
                 let (place, value) = level.split_once(':').unwrap();
@@ -181,7 +193,8 @@ fn answer(kind: &str, a: &Asked) -> Result<String, (Refusal, String)> {
             }
             let rdpcm = [Rdpcm::None, Rdpcm::Horizontal, Rdpcm::Vertical][(a.number("rdpcm", -1) + 1) as usize];
             let mut room = vec![HELD; a.number("room", longest_list(a.params().log2) as i64) as usize];
-            let r = write_bins(a.params(), &mut statistics, &levels, a.number("skip", 0) == 1, rdpcm, &mut room);
+            let writer = if kind == "write" { write_bins } else { plain::write_bins_plain };
+            let r = writer(a.params(), &mut statistics, &levels, a.number("skip", 0) == 1, rdpcm, &mut room);
             written(r, &room, format!(" stats={}", text(&statistics)))
         }
         "init" => {
@@ -196,8 +209,9 @@ fn answer(kind: &str, a: &Asked) -> Result<String, (Refusal, String)> {
         "crosslist" => read_scale_bins(&a.list(), component).map(|z| format!("scale={z}")).map_err(bare),
         "crosswrite" => {
             let mut room = vec![HELD; a.number("room", LONGEST_SCALE_LIST as i64 + 2) as usize];
-            written(write_scale(component, a.number("scale", 0) as i32, &mut room), &room, String::new())
+            written(write_scale_bins(component, a.number("scale", 0) as i32, &mut room), &room, String::new())
         }
+        "pack" => crate::pack::case(a),
         _ => panic!("a kind of case that is not known: {kind}"),
     }
 }
@@ -214,7 +228,7 @@ fn written(r: Result<usize, Refusal>, room: &[u8], more: String) -> Result<Strin
 pub fn run(vectors: &str) {
     let (mut kinds, mut wrong, mut later) = (BTreeMap::<(&str, String), (u32, u32)>::new(), 0, 0);
     for name in FILES {
-        let lines = std::fs::read_to_string(format!("{vectors}/02/{name}")).expect("VECTORS/02 has engine.txt, extents.txt and cross.txt");
+        let lines = std::fs::read_to_string(format!("{vectors}/02/{name}")).unwrap_or_else(|_| panic!("VECTORS/02 has no {name}"));
         for line in lines.lines().filter(|l| !l.starts_with('#')) {
             let (asked, wanted) = line.split_once(" => ").unwrap();
             let (kind, keys) = asked.split_once(' ').unwrap();
@@ -223,15 +237,21 @@ pub fn run(vectors: &str) {
                 continue;
             }
             let asked = Asked(keys.split(' ').map(|word| word.split_once('=').unwrap()).collect());
-            let ours = match answer(kind, &asked) {
-                Ok(words) => format!("answer=0 {words}"),
-                Err((r, words)) => format!("answer={}{words}", r.number()),
+            let ours = match kind {
+                "tray" => crate::tray::case(&asked),
+                "pair" => crate::depend::case(&asked, wanted),
+                "kept" => crate::kept::answer(&asked.0, params_of),
+                "figures" => crate::figures::answer(&asked.0),
+                _ => match answer(kind, &asked) {
+                    Ok(words) => format!("answer=0 {words}"),
+                    Err((r, words)) => format!("answer={}{words}", r.number()),
+                },
             };
-            // where a refusal arose is request (xii)'s
+            // where a refusal arose is not handed out
             let wanted = wanted.split(" reached=").next().unwrap();
             let seen = kinds.entry((name, kind.to_string())).or_default();
             seen.0 += 1;
-            seen.1 += ours.starts_with("answer=0 ") as u32;
+            seen.1 += (["answer=0 ", "steps=", "numbers="].iter().any(|head| ours.starts_with(head)) || ours.ends_with("covered=1 same=1")) as u32;
             if ours != wanted {
                 println!("DIFFERENCE: {line}\nours {ours}");
                 wrong += 1;
@@ -239,7 +259,7 @@ pub fn run(vectors: &str) {
         }
     }
     for ((name, kind), (all, accepted)) in &kinds {
-        println!("{name} {kind}: {all} cases, {accepted} of them accepted");
+        println!("{name} {kind}: {all} cases, {accepted} of them accepted or covered");
     }
     println!("{} cases, {wrong} wrong; {later} of later requests left out", kinds.values().map(|c| c.0).sum::<u32>());
     if wrong > 0 {

@@ -3,7 +3,7 @@ use crate::cabac::contexts::ContextSet;
 use crate::cabac::engine;
 use crate::model::{Engine, List, Scans, Walk, greatest_row, walk};
 use crate::peer;
-use bulmegart::{BYPASS_ENTRY, CONTEXTS, Found, Params, Rdpcm, Refusal, State, read_bins, read_block, write_bins};
+use bulmegart::{BYPASS_ENTRY, CONTEXTS, Found, Params, Rdpcm, Refusal, State, read_bins, residual_coding, write_bins};
 use std::collections::BTreeMap;
 
 pub struct Input<'a> {
@@ -101,7 +101,7 @@ impl Bench {
     fn ours(&mut self, i: &Input) -> (Result<(Found, State), Refusal>, [u8; CONTEXTS], [u8; 4]) {
         let (mut contexts, mut statistics) = (i.contexts, i.statistics);
         self.ours[..i.room + 8].fill(HELD);
-        let r = read_block(i.payload, i.state, &mut contexts, &mut statistics, i.params, &mut self.ours[..i.room]);
+        let r = residual_coding(i.payload, i.state, &mut contexts, &mut statistics, i.params, &mut self.ours[..i.room]);
         (r, contexts, statistics)
     }
 

@@ -6,7 +6,7 @@ use crate::made::{self, Style};
 use crate::peer;
 use crate::random::Random;
 use crate::scale;
-use bulmegart::{CONTEXTS, Params, Refusal, State, bypass, bypass_bin, byte_align, decision, raw_bits, rest, restart, start, terminate};
+use bulmegart::{CONTEXTS, Params, Refusal, State, decode_bypass_bits, decode_bypass, byte_align, decode_bin, read_bits, rest, restart, start, decode_terminate};
 use std::collections::BTreeMap;
 
 /// A recorded block of a real stream.
@@ -107,7 +107,7 @@ pub fn statistics(r: &mut Random) -> [u8; 4] {
 }
 
 /// Bytes of random bits, 1 so often of 256, with runs of one byte.
-fn bytes(r: &mut Random, length: usize) -> Vec<u8> {
+pub fn bytes(r: &mut Random, length: usize) -> Vec<u8> {
     let often = r.of(&[128, 128, 128, 192, 240, 40]);
     let mut out: Vec<u8> = (0..length).map(|_| (0..8).fold(0, |b, _| b << 1 | r.chance(often) as u8)).collect();
     if length > 2 && r.chance(64) {
@@ -400,25 +400,25 @@ fn engine_steps(r: &mut Random, runs: u64) -> BTreeMap<(&'static str, u32), u64>
                     let mut context = r.below(128) as u8;
                     let mut model = crate::cabac::contexts::CtxModel { state: context };
                     let past = total(&payload, &s, |d| _ = d.decode_bin(&mut crate::cabac::contexts::CtxModel { state: context }));
-                    let ours = decision(&payload, s, &mut context);
+                    let ours = decode_bin(&payload, s, &mut context);
                     let bin = dec.decode_bin(&mut model);
                     assert_eq!(context, model.state);
                     ("decision", ours.map(|x| x.0 as u32) == Ok(bin as u32), ours.map(|x| x.1), past)
                 }
                 1 => {
-                    let ours = bypass_bin(&payload, s);
+                    let ours = decode_bypass(&payload, s);
                     let bin = dec.decode_bypass();
                     ("bypass bin", ours.map(|x| x.0 as u32) == Ok(bin as u32), ours.map(|x| x.1), total(&payload, &s, |d| _ = d.decode_bypass()))
                 }
                 2 => {
                     let count = r.below(33) as u32;
-                    let ours = bypass(&payload, s, count);
+                    let ours = decode_bypass_bits(&payload, s, count);
                     let value = dec.decode_bypass_bits(count);
                     ("bypass", ours.map(|x| x.0) == Ok(value), ours.map(|x| x.1), total(&payload, &s, |d| _ = d.decode_bypass_bits(count)))
                 }
                 3 => {
                     let count = r.below(33) as u32;
-                    let ours = raw_bits(&payload, s, count);
+                    let ours = read_bits(&payload, s, count);
                     let value = dec.read_pcm_bits(count);
                     ("raw", ours.map(|x| x.0) == Ok(value), ours.map(|x| x.1), total(&payload, &s, |d| _ = d.read_pcm_bits(count)))
                 }
@@ -439,12 +439,12 @@ fn engine_steps(r: &mut Random, runs: u64) -> BTreeMap<(&'static str, u32), u64>
                     ("restart", ours.is_ok(), ours, total(&payload, &s, |d| d.reinit_after_pcm()))
                 }
                 _ => {
-                    let ours = terminate(&payload, s);
+                    let ours = decode_terminate(&payload, s);
                     let bin = dec.decode_terminate();
                     if bin == 1 {
                         let ended = ours.unwrap().1; // D12
                         assert_eq!((ours.unwrap().0, ended.range, ended.offset, ended.ended), (true, dec.range, dec.offset, true));
-                        assert_eq!((bypass_bin(&payload, ended), decision(&payload, ended, &mut 5)), (Err(Refusal::Ended), Err(Refusal::Ended)));
+                        assert_eq!((decode_bypass(&payload, ended), decode_bin(&payload, ended, &mut 5)), (Err(Refusal::Ended), Err(Refusal::Ended)));
                         *counts.entry(("ended", 6)).or_default() += 1;
                         break;
                     }

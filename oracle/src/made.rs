@@ -82,6 +82,12 @@ impl Encoder {
         }
     }
 
+    /// Terminate by 0.
+    pub fn go_on(&mut self) {
+        self.range -= 2;
+        self.renorm();
+    }
+
     /// Terminate by 1 and the flush; zero bits fill the last byte.
     pub fn finish(mut self) -> Vec<u8> {
         self.range -= 2;

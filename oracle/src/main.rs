@@ -32,20 +32,41 @@ mod cabac {
         include!(concat!(env!("PEER"), "/src--src--cabac--residual_full.rs.txt"));
     }
 }
+/// The same files as docs/BENCH.md has them: its own contexts on our engine and block reader.
+mod swapped {
+    pub mod contexts {
+        include!(concat!(env!("OUT_DIR"), "/contexts.rs"));
+    }
+    pub mod engine {
+        pub use bulmegart::swap::engine::*;
+    }
+    pub mod residual_full {
+        pub use bulmegart::swap::residual_full::*;
+    }
+}
 mod error {
     include!(concat!(env!("PEER"), "/src--src--error.rs.txt"));
 }
 
 mod bench;
+mod book;
 mod cases;
 mod compare;
+mod depend;
+mod figures;
+mod h264;
 mod inputs;
+mod kept;
 mod made;
 mod model;
+mod pack;
 mod peer;
+mod plain;
 mod random;
 mod sample;
 mod scale;
+mod tray;
+mod swap;
 
 fn main() {
     let words: Vec<String> = std::env::args().skip(1).collect();
@@ -53,12 +74,23 @@ fn main() {
     match words[..] {
         ["compare", vectors, share, seed] => inputs::run(vectors, share.parse().unwrap(), seed.parse().unwrap()),
         ["cases", vectors] => cases::run(vectors),
+        ["plain", vectors, seed] => plain::run(vectors, seed.parse().unwrap()),
+        ["trays", vectors, rounds, seed] => tray::run(vectors, rounds.parse().unwrap(), seed.parse().unwrap()),
+        ["tray-bench", rounds] => bench::trays(rounds.parse().unwrap()),
+        ["pack", vectors, count, seed] => pack::run(vectors, count.parse().unwrap(), seed.parse().unwrap()),
+        ["packbench", vectors, rounds] => pack::bench(vectors, rounds.parse().unwrap()),
+        ["swap", vectors, sequences, seed] => swap::run(vectors, sequences.parse().unwrap(), seed.parse().unwrap()),
+        ["swapspeed", vectors, rounds] => swap::speed(vectors, rounds.parse().unwrap()),
+        ["kept", rounds] => kept::speed(rounds.parse().unwrap()),
+        ["h264", vectors, runs, seed] => h264::run(vectors, &mut random::Random::new(seed.parse().unwrap()), runs.parse().unwrap()),
         ["sample", seed] => sample::write(seed.parse().unwrap()),
         ["frame", values, qp, log2, seed] => sample::frame(values, qp.parse().unwrap(), log2.parse().unwrap(), seed.parse().unwrap()),
+        ["book", books, rounds] => book::run(books, rounds.parse().unwrap()),
         ["bench", vectors, rounds] => bench::run(vectors, rounds.parse().unwrap(), None),
         ["bench", vectors, rounds, side, row] => bench::run(vectors, rounds.parse().unwrap(), Some((side, row.parse().unwrap()))),
         _ => {
-            eprintln!("oracle compare VECTORS SHARE SEED | oracle cases VECTORS | oracle bench VECTORS ROUNDS [ours|rust ROW] | oracle sample SEED | oracle frame VALUES QP LOG2 SEED");
+            eprintln!("one of: compare VECTORS SHARE SEED, cases VECTORS, plain VECTORS SEED, trays VECTORS ROUNDS SEED, tray-bench ROUNDS, pack VECTORS COUNT SEED, packbench VECTORS ROUNDS,");
+            eprintln!("kept ROUNDS, book BOOKS ROUNDS, h264 VECTORS RUNS SEED, swap VECTORS SEQUENCES SEED, swapspeed VECTORS ROUNDS, bench VECTORS ROUNDS [ours|rust ROW], sample SEED, frame VALUES QP LOG2 SEED (oracle/README.md)");
             std::process::exit(2);
         }
     }

@@ -1,4 +1,5 @@
-//! A fixed sample of answers, three lines each: the line that the program replay reads, and the two lines that it must write.
+//! A fixed sample of answers, as records of the program cases: one of the payload reader, one of the bin reader, and of an accepted list one of the
+//! bin writer with a room of one byte less.
 //! Each is an answer on which the Rust, the model and the archive agree, or the refusal that document 01 gives.
 use crate::compare::{Bench, Input, refused_at_once};
 use crate::inputs;
@@ -11,8 +12,6 @@ use std::collections::BTreeMap;
 /// Of each kind (number, rule, size, and whether it ran past the end) so many, accepted and refused.
 const EACH: [u32; 2] = [30, 12];
 const ALL: usize = 500;
-/// What the program's block holds before a call.
-const BEHIND: i32 = 7;
 
 pub fn hex(bytes: &[u8]) -> String {
     if bytes.is_empty() {
@@ -26,11 +25,30 @@ pub fn levels(block: &[i32]) -> String {
     if shown.is_empty() { "-".into() } else { shown.join(",") }
 }
 
-fn found(w: &Walk) -> String {
-    format!("0 {} {} {} {} {}", w.skip as u32, w.rdpcm, w.column, w.row, w.greatest)
+fn found(w: &Walk, block: &[i32]) -> String {
+    format!("answer=0 skip={} rdpcm={} column={} row={} greatest={} levels={}", w.skip as u32, w.rdpcm, w.column, w.row, w.greatest, levels(block))
 }
 
-/// The three lines, and the kind; none where the program's input can't say it.
+/// A key with its value, unless that is the one that stands for a missing key.
+fn key(name: &str, value: &str, usual: &str) -> String {
+    if value == usual { String::new() } else { format!(" {name}={value}") }
+}
+
+fn changes(before: &[u8], after: &[u8]) -> String {
+    let changed: Vec<String> = before.iter().zip(after).enumerate().filter(|(_, (b, a))| b != a).map(|(k, (_, a))| format!("{k}:{a:02x}")).collect();
+    if changed.is_empty() { "-".into() } else { changed.join(",") }
+}
+
+/// What the handed parameters and statistics add to a record.
+fn handed(i: &Input) -> (String, String) {
+    let p = &i.params;
+    let flags = [p.hiding, p.skip_allowed, p.lossless, p.persistent, p.skip_context, p.explicit_rdpcm, p.implicit_rdpcm, p.inter, p.aligning, p.extended];
+    let flags: Vec<&str> = flags.iter().map(|&on| if on { "1" } else { "0" }).collect();
+    let chosen = format!("{},{},{},{},{}", p.log2, p.luma as u32, p.scan, flags.join(","), p.depth);
+    (key("p", &chosen, "2,1,0,0,0,0,0,0,0,0,0,0,0,8"), key("stats", &hex(&i.statistics), "00000000"))
+}
+
+/// The records, and the kind; none where the sample leaves it out.
 fn record(b: &mut Bench, i: &Input) -> Option<(String, (u32, &'static str, u32, bool))> {
     let i = &Input { state: State { past: if i.state.past > 65535 { i.state.past } else { 0 }, ..i.state }, ..*i };
     let (p, s) = (&i.params, &i.state);
@@ -39,74 +57,63 @@ fn record(b: &mut Bench, i: &Input) -> Option<(String, (u32, &'static str, u32, 
     }
     b.block(i, false);
     let at_once = refused_at_once(i);
-    let flags = [p.hiding, p.skip_allowed, p.lossless, p.persistent, p.skip_context, p.explicit_rdpcm, p.implicit_rdpcm, p.inter, p.aligning, p.extended];
-    let flags: Vec<&str> = flags.iter().map(|&on| if on { "1" } else { "0" }).collect();
     let area = if (2..=5).contains(&p.log2) { 1usize << (2 * p.log2) } else { 0 };
-    let (contexts, statistics) = (hex(&i.contexts), hex(&i.statistics));
-    let (payload_line, list, kind);
+    let (answer, list, kind);
     if at_once != 0 {
-        payload_line = format!("payload {at_once} {} {contexts} {statistics}", levels(&vec![BEHIND; area]));
+        answer = format!("answer={at_once} memory=untouched");
         list = Vec::new();
         kind = (at_once, "checks", p.log2, false);
     } else {
         let (w, e, after) = b.model(i);
         let end = 8 * i.payload.len();
         list = e.list.clone();
-        payload_line = match w.refusal {
+        answer = match w.refusal {
             None => format!(
-                "payload {} {} {} {} 0 {} {} {} {}",
-                found(&w),
+                "{} state={},{},{},0,{} changes={} stats={}",
+                found(&w, &b.modelled()[..area]),
                 e.range,
                 e.offset,
                 e.at.min(end),
                 e.at.saturating_sub(end).min(65535),
-                levels(&b.modelled()[..area]),
-                hex(&e.contexts),
+                changes(&i.contexts, &e.contexts),
                 hex(&after)
             ),
-            Some(r) => format!("payload {} - {contexts} {statistics}", r.number),
+            Some(r) => format!("answer={} memory=zero", r.number),
         };
         kind = (w.refusal.map_or(0, |r| r.number), w.refusal.map_or("", |r| r.rule), p.log2, e.at > end);
     }
     if list.len() > 800 {
         return None;
     }
-    let bins_line = bins(b, i, &list, area)?;
-    let line = format!(
-        "B {} {} {} {} {} {} {} {} {} {contexts} {statistics} {}",
-        p.log2,
-        p.luma as u32,
-        p.scan,
-        flags.join(" "),
-        p.depth,
-        s.range,
-        s.offset,
-        s.position,
-        hex(i.payload),
-        hex(&list)
-    );
-    Some((format!("{line}\n{payload_line}\n{bins_line}"), kind))
+    let (chosen, statistics) = handed(i);
+    let state = format!("{},{},{},0,0", s.range, s.offset, s.position);
+    let block = format!("block payload={} state={state}{chosen} ctx={}{statistics} => {answer}", hex(i.payload), hex(&i.contexts));
+    Some((format!("{block}\n{}", bins(b, i, &list, area)), kind))
 }
 
-/// What the bin reader answers to the list, which is handed only parameters and statistics.
-fn bins(b: &Bench, i: &Input, list: &[u8], area: usize) -> Option<String> {
+/// What the bin reader answers to the list, which is handed only parameters and statistics, and the writer to a room that is too short for it.
+fn bins(b: &Bench, i: &Input, list: &[u8], area: usize) -> String {
     let p = &i.params;
-    let statistics = hex(&i.statistics);
-    let whole = || levels(&vec![BEHIND; area]);
+    let (chosen, statistics) = handed(i);
+    let read = format!("list list={}{chosen}{statistics} => ", hex(list));
     if area == 0 || p.scan > 2 || !(8..=16).contains(&p.depth) {
-        return Some(format!("bins 4 {} {statistics}", whole()));
+        return format!("{read}answer=4 memory=untouched");
     }
     if i.statistics.iter().any(|&c| c > 84) {
-        return Some(format!("bins 3 {} {statistics}", whole()));
+        return format!("{read}answer=3 memory=untouched");
     }
     let mut source = List { list, at: 0, failed: false };
     let (mut after, mut block) = (i.statistics, vec![0; 1024]);
     let w = walk(&mut source, p, &b.scans, &mut after, &mut block);
-    Some(match w.refusal {
-        Some(r) => format!("bins {} - {statistics}", r.number),
-        None if source.at < list.len() => format!("bins 13 - {statistics}"),
-        None => format!("bins {} {} {}", found(&w), levels(&block[..area]), hex(&after)),
-    })
+    if let Some(r) = w.refusal {
+        return format!("{read}answer={} memory=zero", r.number);
+    }
+    if source.at < list.len() {
+        return format!("{read}answer=13 memory=zero");
+    }
+    let choices = key("skip", &(w.skip as u32).to_string(), "0") + &key("rdpcm", &w.rdpcm.to_string(), "-1");
+    let short = format!("write levels={}{choices}{chosen}{statistics} room={} => answer=12", levels(&block[..area]), list.len() - 1);
+    format!("{read}{} stats={}\n{short}", found(&w, &block[..area]), hex(&after))
 }
 
 pub fn write(seed: u64) {

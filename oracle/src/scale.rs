@@ -7,7 +7,7 @@ use crate::cabac::engine;
 use crate::inputs::{self, hex};
 use crate::model::{Engine, Source};
 use crate::random::Random;
-use bulmegart::raw::{RawScaleAnswer, RawScaleListAnswer, RawState, RawWriteAnswer, bulmegart_read_scale, bulmegart_read_scale_bins, bulmegart_write_scale};
+use bulmegart::raw::{RawScaleAnswer, RawScaleListAnswer, RawState, RawWriteAnswer, bulmegart_read_scale, bulmegart_read_scale_bins, bulmegart_write_scale_bins};
 use bulmegart::{ALIGNMENT_ENTRY, BYPASS_ENTRY, CONTEXTS};
 use std::collections::BTreeMap;
 
@@ -186,7 +186,7 @@ impl Scales {
     /// A scale written in a room, by ours and by the model.
     pub fn write(&mut self, component: u32, z: i32, room: usize) {
         let mut lent = vec![HELD; room + 2];
-        let ours = unsafe { bulmegart_write_scale(component, z, lent.as_mut_ptr(), room) };
+        let ours = unsafe { bulmegart_write_scale_bins(component, z, lent.as_mut_ptr(), room) };
         let wanted = written(component, z).and_then(|list| if list.len() > room { Err(12) } else { Ok(list) });
         self.count("written", wanted.as_ref().err().copied().unwrap_or(0));
         let list = wanted.clone().unwrap_or_default();

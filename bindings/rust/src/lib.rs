@@ -14,7 +14,7 @@
 //!
 //! let mut reader = Reader::start(&[0xfe, 0x80], &[154; CONTEXTS], 26)?;
 //! let mut levels = [0; 16];
-//! let found = reader.read_block(Params::plain(2), &mut levels)?;
+//! let found = reader.residual_coding(Params::plain(2), &mut levels)?;
 //! assert_eq!((levels[0], found.greatest, reader.state.position, reader.state.past), (-1, 1, 13, 0));
 //! # Ok::<(), bulmegart::Refusal>(())
 //! ```
@@ -22,28 +22,43 @@
 //! The same by functions that keep nothing:
 //!
 //! ```
-//! use bulmegart::{init_contexts, read_block, start, Params, CONTEXTS, STATISTICS};
+//! use bulmegart::{init_contexts, residual_coding, start, Params, CONTEXTS, STATISTICS};
 //!
 //! let payload = [0xfe, 0x80];
 //! let (mut contexts, mut statistics) = ([0; CONTEXTS], [0; STATISTICS]);
 //! init_contexts(&mut contexts, &mut statistics, &[154; CONTEXTS], 26)?;
 //! let mut levels = [0; 16];
-//! let (found, state) = read_block(&payload, start(&payload)?, &mut contexts, &mut statistics, Params::plain(2), &mut levels)?;
+//! let (found, state) = residual_coding(&payload, start(&payload)?, &mut contexts, &mut statistics, Params::plain(2), &mut levels)?;
 //! assert_eq!((levels[0], found.greatest, state.position), (-1, 1, 13));
 //! # Ok::<(), bulmegart::Refusal>(())
 //! ```
 //!
-//! The numbers as C has them are in [`raw`].
+//! The numbers as C has them are in [`raw`]; the names and signatures of the Rust that the bench is built around in [`swap`].
 #![deny(missing_docs)]
 
+pub mod book;
+pub mod figures;
+mod pack;
+pub mod plain;
+pub mod press;
+pub mod h264;
 pub mod raw;
 mod reader;
 mod refusal;
+pub mod summary;
+pub mod swap;
+mod tray;
 
+pub use book::Book;
+pub use pack::{longest_payload, pack_bins, pack_scale};
+pub use press::press;
 use raw::*;
 pub use reader::Reader;
 pub use refusal::Refusal;
+pub use tray::*;
 
+/// The version of the archive that this crate calls; [`version`] asks the archive.
+pub const VERSION: u32 = 0x00_03_00;
 /// How many packed contexts there are; [`contexts`] has their order. Each is a byte, 0 to 127: bits 0 to 5 its state, bit 6 the favoured bin.
 pub const CONTEXTS: usize = contexts::SCALE_SIGN.end;
 /// How many statistics of persistent Rice there are, 0 to 84 each: chroma, chroma with skip or bypass, luma, luma with skip or bypass.
@@ -259,6 +274,13 @@ fn bin(r: RawBinsAnswer) -> Result<(bool, State), Refusal> {
     accepted(r.number, (r.value != 0, seen(r.state)))
 }
 
+/// The archive's version: two hexadecimal digits for each of minor and patch, major above them. [`VERSION`] is this crate's; where they differ, crate and
+/// archive were not made together, and no other answer means anything.
+pub fn version() -> u32 {
+    // Sound: no memory is lent.
+    unsafe { bulmegart_version() }
+}
+
 /// The packed context of an initial value at a QP; a QP above 51 counts as 51.
 pub fn init(value: u8, qp: u8) -> u8 {
     // Sound: no memory is lent.
@@ -279,25 +301,31 @@ pub fn start(payload: &[u8]) -> Result<State, Refusal> {
 }
 
 /// One decision on a packed context, which it changes. Refusals: 1, 2, 3, 6; the context then stands.
-pub fn decision(payload: &[u8], state: State, context: &mut u8) -> Result<(bool, State), Refusal> {
-    let r = unsafe { bulmegart_decision(payload.as_ptr(), payload.len(), state.raw(), *context) };
+pub fn decode_bin(payload: &[u8], state: State, context: &mut u8) -> Result<(bool, State), Refusal> {
+    let r = unsafe { bulmegart_decode_bin(payload.as_ptr(), payload.len(), state.raw(), *context) };
     *context = r.context;
     accepted(r.number, (r.bin != 0, seen(r.state)))
 }
 
 /// One bypass bin. Refusals: 1, 2, 3, 6.
-pub fn bypass_bin(payload: &[u8], state: State) -> Result<(bool, State), Refusal> {
-    bin(unsafe { bulmegart_bypass_bin(payload.as_ptr(), payload.len(), state.raw()) })
+pub fn decode_bypass(payload: &[u8], state: State) -> Result<(bool, State), Refusal> {
+    bin(unsafe { bulmegart_decode_bypass(payload.as_ptr(), payload.len(), state.raw()) })
 }
 
 /// Bypass bins, 0 to 32 of them, the first one highest. Refusals: 1, 2, 4 (count), 3, 6.
-pub fn bypass(payload: &[u8], state: State, count: u32) -> Result<(u32, State), Refusal> {
-    bins(unsafe { bulmegart_bypass(payload.as_ptr(), payload.len(), state.raw(), count) })
+pub fn decode_bypass_bits(payload: &[u8], state: State, count: u32) -> Result<(u32, State), Refusal> {
+    bins(unsafe { bulmegart_decode_bypass_bits(payload.as_ptr(), payload.len(), state.raw(), count) })
 }
 
 /// Terminate: true ends the engine. Refusals: 1, 2, 3, 6.
-pub fn terminate(payload: &[u8], state: State) -> Result<(bool, State), Refusal> {
-    bin(unsafe { bulmegart_terminate(payload.as_ptr(), payload.len(), state.raw()) })
+pub fn decode_terminate(payload: &[u8], state: State) -> Result<(bool, State), Refusal> {
+    bin(unsafe { bulmegart_decode_terminate(payload.as_ptr(), payload.len(), state.raw()) })
+}
+
+/// Alignment of the range, as before escape data: range 256; offset, position and past stay. Refusals: 1, 2, 3, 6, 7.
+pub fn align_bypass(payload: &[u8], state: State) -> Result<State, Refusal> {
+    let r = unsafe { bulmegart_align_bypass(payload.as_ptr(), payload.len(), state.raw()) };
+    accepted(r.number, seen(r.state))
 }
 
 /// Byte alignment: the position rounded up to a whole byte. Refusals: 1, 2, 3.
@@ -319,15 +347,15 @@ pub fn restart(payload: &[u8], state: State) -> Result<State, Refusal> {
 }
 
 /// Raw bits, 0 to 32 of them, in any phase: range and offset stay. Refusals: 1, 2, 4 (count), 3.
-pub fn raw_bits(payload: &[u8], state: State, count: u32) -> Result<(u32, State), Refusal> {
-    bins(unsafe { bulmegart_raw_bits(payload.as_ptr(), payload.len(), state.raw(), count) })
+pub fn read_bits(payload: &[u8], state: State, count: u32) -> Result<(u32, State), Refusal> {
+    bins(unsafe { bulmegart_read_bits(payload.as_ptr(), payload.len(), state.raw(), count) })
 }
 
 /// One block from a payload. Levels stand row by row, y·n + x; places past n·n are never changed.
 ///
 /// Refusals: 1, 2, 4, 3, 6 with the levels untouched, then 7 or 8 in the order of reading with n·n levels zero. Contexts and
 /// statistics move on acceptance alone.
-pub fn read_block(
+pub fn residual_coding(
     payload: &[u8],
     state: State,
     contexts: &mut [u8; CONTEXTS],
@@ -336,7 +364,7 @@ pub fn read_block(
     levels: &mut [i32],
 ) -> Result<(Found, State), Refusal> {
     let r = unsafe {
-        bulmegart_read_block(
+        bulmegart_residual_coding(
             payload.as_ptr(),
             payload.len(),
             state.raw(),
@@ -412,7 +440,7 @@ pub fn read_scale_bins(list: &[u8], component: u32) -> Result<i32, Refusal> {
 /// untouched.
 ///
 /// Refusals, with the room untouched: 4 (component, or a scale that is none of the nine, which is when no list of any length reads as it), 12.
-pub fn write_scale(component: u32, scale: i32, room: &mut [u8]) -> Result<usize, Refusal> {
-    let r = unsafe { bulmegart_write_scale(component, scale, room.as_mut_ptr(), room.len()) };
+pub fn write_scale_bins(component: u32, scale: i32, room: &mut [u8]) -> Result<usize, Refusal> {
+    let r = unsafe { bulmegart_write_scale_bins(component, scale, room.as_mut_ptr(), room.len()) };
     accepted(r.number, r.length)
 }

@@ -195,30 +195,34 @@ laid_out!(RawScaleAnswer, 32, number 0, scale 4, state 8);
 laid_out!(RawScaleListAnswer, 8, number 0, scale 4);
 
 extern "C" {
+    /// See [`version`](crate::version).
+    pub fn bulmegart_version() -> u32;
     /// See [`init`](crate::init).
     pub fn bulmegart_init(value: u8, qp: u8) -> u8;
     /// See [`init_contexts`](crate::init_contexts).
     pub fn bulmegart_init_contexts(contexts: *mut u8, statistics: *mut u8, values: *const u8, values_length: usize, qp: u8) -> u32;
     /// See [`start`](crate::start).
     pub fn bulmegart_start(payload: *const u8, length: usize) -> RawStateAnswer;
-    /// See [`decision`](crate::decision).
-    pub fn bulmegart_decision(payload: *const u8, length: usize, state: RawState, context: u8) -> RawDecisionAnswer;
-    /// See [`bypass_bin`](crate::bypass_bin).
-    pub fn bulmegart_bypass_bin(payload: *const u8, length: usize, state: RawState) -> RawBinsAnswer;
-    /// See [`bypass`](crate::bypass).
-    pub fn bulmegart_bypass(payload: *const u8, length: usize, state: RawState, count: u32) -> RawBinsAnswer;
-    /// See [`terminate`](crate::terminate).
-    pub fn bulmegart_terminate(payload: *const u8, length: usize, state: RawState) -> RawBinsAnswer;
+    /// See [`decode_bin`](crate::decode_bin).
+    pub fn bulmegart_decode_bin(payload: *const u8, length: usize, state: RawState, context: u8) -> RawDecisionAnswer;
+    /// See [`decode_bypass`](crate::decode_bypass).
+    pub fn bulmegart_decode_bypass(payload: *const u8, length: usize, state: RawState) -> RawBinsAnswer;
+    /// See [`decode_bypass_bits`](crate::decode_bypass_bits).
+    pub fn bulmegart_decode_bypass_bits(payload: *const u8, length: usize, state: RawState, count: u32) -> RawBinsAnswer;
+    /// See [`decode_terminate`](crate::decode_terminate).
+    pub fn bulmegart_decode_terminate(payload: *const u8, length: usize, state: RawState) -> RawBinsAnswer;
+    /// See [`align_bypass`](crate::align_bypass).
+    pub fn bulmegart_align_bypass(payload: *const u8, length: usize, state: RawState) -> RawStateAnswer;
     /// See [`byte_align`](crate::byte_align).
     pub fn bulmegart_byte_align(payload: *const u8, length: usize, state: RawState) -> RawStateAnswer;
     /// See [`rest`](crate::rest).
     pub fn bulmegart_rest(payload: *const u8, length: usize, state: RawState) -> RawRestAnswer;
     /// See [`restart`](crate::restart).
     pub fn bulmegart_restart(payload: *const u8, length: usize, state: RawState) -> RawStateAnswer;
-    /// See [`raw_bits`](crate::raw_bits).
-    pub fn bulmegart_raw_bits(payload: *const u8, length: usize, state: RawState, count: u32) -> RawBinsAnswer;
-    /// See [`read_block`](crate::read_block).
-    pub fn bulmegart_read_block(
+    /// See [`read_bits`](crate::read_bits).
+    pub fn bulmegart_read_bits(payload: *const u8, length: usize, state: RawState, count: u32) -> RawBinsAnswer;
+    /// See [`residual_coding`](crate::residual_coding).
+    pub fn bulmegart_residual_coding(
         payload: *const u8,
         length: usize,
         state: RawState,
@@ -252,6 +256,25 @@ extern "C" {
     pub fn bulmegart_read_scale(payload: *const u8, length: usize, state: RawState, contexts: *mut u8, component: u32) -> RawScaleAnswer;
     /// See [`read_scale_bins`](crate::read_scale_bins).
     pub fn bulmegart_read_scale_bins(list: *const u8, length: usize, component: u32) -> RawScaleListAnswer;
-    /// See [`write_scale`](crate::write_scale).
-    pub fn bulmegart_write_scale(component: u32, scale: i32, room: *mut u8, room_length: usize) -> RawWriteAnswer;
+    /// See [`write_scale_bins`](crate::write_scale_bins).
+    pub fn bulmegart_write_scale_bins(component: u32, scale: i32, room: *mut u8, room_length: usize) -> RawWriteAnswer;
+    /// See [`pack_bins`](crate::pack_bins).
+    pub fn bulmegart_pack_bins(
+        contexts: *const u8,
+        statistics: *const u8,
+        params: RawParams,
+        list: *const u8,
+        length: usize,
+        room: *mut u8,
+        room_length: usize,
+    ) -> RawWriteAnswer;
+    /// See [`pack_scale`](crate::pack_scale).
+    pub fn bulmegart_pack_scale(
+        contexts: *const u8,
+        component: u32,
+        list: *const u8,
+        length: usize,
+        room: *mut u8,
+        room_length: usize,
+    ) -> RawWriteAnswer;
 }

@@ -12,7 +12,7 @@ use crate::{Found, Params, Refusal, State, CONTEXTS, STATISTICS};
 /// fn first_level(payload: &[u8]) -> Result<i32, Refusal> {
 ///     let mut reader = Reader::start(payload, &[154; CONTEXTS], 26)?;
 ///     let mut levels = [0; 16];
-///     reader.read_block(Params::plain(2), &mut levels)?;
+///     reader.residual_coding(Params::plain(2), &mut levels)?;
 ///     Ok(levels[0])
 /// }
 /// assert_eq!(first_level(&[0xfe, 0x80]), Ok(-1));
@@ -48,31 +48,37 @@ impl<'a> Reader<'a> {
     }
 
     /// One decision on a packed context of the caller's own, which it changes. Refusals: 1, 2, 3, 6.
-    pub fn decision(&mut self, context: &mut u8) -> Result<bool, Refusal> {
-        let (bin, state) = crate::decision(self.payload, self.state, context)?;
+    pub fn decode_bin(&mut self, context: &mut u8) -> Result<bool, Refusal> {
+        let (bin, state) = crate::decode_bin(self.payload, self.state, context)?;
         self.state = state;
         Ok(bin)
     }
 
     /// One bypass bin. Refusals: 1, 2, 3, 6.
-    pub fn bypass_bin(&mut self) -> Result<bool, Refusal> {
-        let (bin, state) = crate::bypass_bin(self.payload, self.state)?;
+    pub fn decode_bypass(&mut self) -> Result<bool, Refusal> {
+        let (bin, state) = crate::decode_bypass(self.payload, self.state)?;
         self.state = state;
         Ok(bin)
     }
 
     /// Bypass bins, 0 to 32 of them, the first one highest. Refusals: 1, 2, 4 (count), 3, 6.
-    pub fn bypass(&mut self, count: u32) -> Result<u32, Refusal> {
-        let (value, state) = crate::bypass(self.payload, self.state, count)?;
+    pub fn decode_bypass_bits(&mut self, count: u32) -> Result<u32, Refusal> {
+        let (value, state) = crate::decode_bypass_bits(self.payload, self.state, count)?;
         self.state = state;
         Ok(value)
     }
 
     /// Terminate: true ends the engine. Refusals: 1, 2, 3, 6.
-    pub fn terminate(&mut self) -> Result<bool, Refusal> {
-        let (bin, state) = crate::terminate(self.payload, self.state)?;
+    pub fn decode_terminate(&mut self) -> Result<bool, Refusal> {
+        let (bin, state) = crate::decode_terminate(self.payload, self.state)?;
         self.state = state;
         Ok(bin)
+    }
+
+    /// Alignment of the range, as before escape data: range 256; offset, position and past stay. Refusals: 1, 2, 3, 6, 7.
+    pub fn align_bypass(&mut self) -> Result<(), Refusal> {
+        self.state = crate::align_bypass(self.payload, self.state)?;
+        Ok(())
     }
 
     /// Byte alignment: the position rounded up to a whole byte. Refusals: 1, 2, 3.
@@ -93,15 +99,15 @@ impl<'a> Reader<'a> {
     }
 
     /// Raw bits, 0 to 32 of them, in any phase: range and offset stay. Refusals: 1, 2, 4 (count), 3.
-    pub fn raw_bits(&mut self, count: u32) -> Result<u32, Refusal> {
-        let (value, state) = crate::raw_bits(self.payload, self.state, count)?;
+    pub fn read_bits(&mut self, count: u32) -> Result<u32, Refusal> {
+        let (value, state) = crate::read_bits(self.payload, self.state, count)?;
         self.state = state;
         Ok(value)
     }
 
     /// One block. Refusals: 1, 2, 4, 3, 6 with the levels untouched, then 7 or 8 in the order of reading with n·n levels zero.
-    pub fn read_block(&mut self, params: Params, levels: &mut [i32]) -> Result<Found, Refusal> {
-        let (found, state) = crate::read_block(self.payload, self.state, &mut self.contexts, &mut self.statistics, params, levels)?;
+    pub fn residual_coding(&mut self, params: Params, levels: &mut [i32]) -> Result<Found, Refusal> {
+        let (found, state) = crate::residual_coding(self.payload, self.state, &mut self.contexts, &mut self.statistics, params, levels)?;
         self.state = state;
         Ok(found)
     }

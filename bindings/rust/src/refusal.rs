@@ -3,7 +3,7 @@ use std::error::Error;
 use std::fmt;
 
 /// Why a call was refused. Each is given exactly when its words are true, and by its place in document 01's order where several are:
-/// 1, 2, 4, 3, 6, 5, then the order of reading (the writer: 4, 3, 9, 10, 8, 11, 12).
+/// 1, 2, 4, 3, 6, 5, then the order of reading (the writer: 4, 3, 9, 10, 8, 11, 12). The plain functions give 24 behind 4 and before 3.
 #[derive(Clone, Copy, Debug, PartialEq, Eq, Hash)]
 #[non_exhaustive]
 pub enum Refusal {
@@ -34,11 +34,15 @@ pub enum Refusal {
     ShortRoom = 12,
     /// 13: bin reader: list ends early, has another tag, or has bins left over.
     BadList = 13,
+    /// 23: figures: 4,096 accepted blocks are there.
+    FiguresFull = 23,
+    /// 24: plain functions: an option or a statistic outside plain.
+    NotPlain = 24,
 }
 
 impl Refusal {
     /// All of them, in the order of their numbers.
-    pub const ALL: [Refusal; 13] = [
+    pub const ALL: [Refusal; 15] = [
         Refusal::ShortPayload,
         Refusal::LongPayload,
         Refusal::ImpossibleState,
@@ -52,14 +56,16 @@ impl Refusal {
         Refusal::HiddenSign,
         Refusal::ShortRoom,
         Refusal::BadList,
+        Refusal::FiguresFull,
+        Refusal::NotPlain,
     ];
 
-    /// The refusal of a number of document 01; none of 0, which is accepted, and of what is no number.
+    /// The refusal of a number; none of 0, which is accepted, and of what is no number.
     pub fn of_number(number: u32) -> Option<Refusal> {
-        Refusal::ALL.get((number as usize).wrapping_sub(1)).copied()
+        Refusal::ALL.into_iter().find(|refusal| refusal.number() == number)
     }
 
-    /// Document 01's number.
+    /// The papers' number.
     pub const fn number(self) -> u32 {
         self as u32
     }
@@ -80,6 +86,8 @@ impl Refusal {
             Refusal::HiddenSign => "writer: a hidden sign disagrees with its parity",
             Refusal::ShortRoom => "writer: list longer than the room",
             Refusal::BadList => "bin reader: list ends early, has another tag, or has bins left over",
+            Refusal::FiguresFull => "figures: 4,096 accepted blocks are there",
+            Refusal::NotPlain => "plain functions: an option or a statistic outside plain",
         }
     }
 }

@@ -45,35 +45,35 @@ fn starts() {
 #[test]
 fn bins_of_the_engine() {
     let s = start(&[0x80, 0]).unwrap();
-    assert_eq!(bypass(&[0x80, 0], s, 3), Ok((4, state(510, 8, 12))));
-    assert_eq!(bypass(&[0x80, 0], s, 10), Ok((514, State { past: 3, ..state(510, 11, 16) })));
-    assert_eq!(bypass(&[0x80, 0], s, 33), Err(BadParameter));
-    assert_eq!(bypass(&[0x80, 0], s, 0), Ok((0, s)));
-    assert_eq!(bypass_bin(&[0x80, 0], s), Ok((true, state(510, 2, 10))));
-    assert_eq!(raw_bits(&[0x80, 0xff], s, 7), Ok((127, state(510, 256, 16))));
+    assert_eq!(decode_bypass_bits(&[0x80, 0], s, 3), Ok((4, state(510, 8, 12))));
+    assert_eq!(decode_bypass_bits(&[0x80, 0], s, 10), Ok((514, State { past: 3, ..state(510, 11, 16) })));
+    assert_eq!(decode_bypass_bits(&[0x80, 0], s, 33), Err(BadParameter));
+    assert_eq!(decode_bypass_bits(&[0x80, 0], s, 0), Ok((0, s)));
+    assert_eq!(decode_bypass(&[0x80, 0], s), Ok((true, state(510, 2, 10))));
+    assert_eq!(read_bits(&[0x80, 0xff], s, 7), Ok((127, state(510, 256, 16))));
     let s = start(&[0xfe, 0x80]).unwrap();
     let mut context = 0;
-    assert_eq!(decision(&[0xfe, 0x80], s, &mut context), Ok((true, state(480, 478, 10))));
+    assert_eq!(decode_bin(&[0xfe, 0x80], s, &mut context), Ok((true, state(480, 478, 10))));
     assert_eq!(context, 64);
     context = 128;
-    assert_eq!(decision(&[0xfe, 0x80], s, &mut context), Err(ImpossibleState));
+    assert_eq!(decode_bin(&[0xfe, 0x80], s, &mut context), Err(ImpossibleState));
     assert_eq!(context, 128);
 }
 
 #[test]
 fn terminate_rest_and_restart() {
     let payload = [0xfe, 0x80, 0x12, 0x34];
-    assert_eq!(terminate(&[0, 0], start(&[0, 0]).unwrap()), Ok((false, state(508, 0, 9))));
-    let (bin, ended) = terminate(&payload, start(&payload).unwrap()).unwrap();
+    assert_eq!(decode_terminate(&[0, 0], start(&[0, 0]).unwrap()), Ok((false, state(508, 0, 9))));
+    let (bin, ended) = decode_terminate(&payload, start(&payload).unwrap()).unwrap();
     assert_eq!((bin, ended), (true, State { ended: true, ..state(508, 509, 9) }));
-    assert_eq!(terminate(&payload, ended), Err(Ended));
-    assert_eq!(bypass(&payload, ended, 0), Err(Ended));
+    assert_eq!(decode_terminate(&payload, ended), Err(Ended));
+    assert_eq!(decode_bypass_bits(&payload, ended, 0), Err(Ended));
     assert_eq!(rest(&payload, ended), Ok(&payload[2..]));
     assert_eq!(byte_align(&payload, ended), Ok(State { position: 16, ..ended }));
     assert_eq!(restart(&payload, ended), Ok(state(510, 0x24, 25)));
     let beyond = State { position: 33, ..ended };
     assert_eq!(rest(&payload, beyond), Err(ImpossibleState));
-    assert_eq!(terminate(&payload, beyond), Err(ImpossibleState));
+    assert_eq!(decode_terminate(&payload, beyond), Err(ImpossibleState));
 }
 
 #[test]
@@ -81,7 +81,7 @@ fn a_block() {
     let payload = [0xfe, 0x80];
     let (mut contexts, mut statistics, mut levels) = ([64; CONTEXTS], [0; 4], [77; 20]);
     let s = start(&payload).unwrap();
-    let (found, next) = read_block(&payload, s, &mut contexts, &mut statistics, Params::plain(2), &mut levels).unwrap();
+    let (found, next) = residual_coding(&payload, s, &mut contexts, &mut statistics, Params::plain(2), &mut levels).unwrap();
     assert_eq!(next, state(480, 464, 13));
     assert_eq!(found, Found { skip: false, rdpcm: Rdpcm::None, column: 0, row: 0, greatest: 1 });
     assert_eq!(levels[..16], [-1, 0, 0, 0, 0, 0, 0, 0, 0, 0, 0, 0, 0, 0, 0, 0]);
@@ -113,7 +113,7 @@ fn refusals_in_their_order() {
     let s = start(&payload).unwrap();
     let mut kept = ([64; CONTEXTS], [0; 4], [77; 16]);
     let mut read = |payload: &[u8], s: State, p: Params| {
-        let r = read_block(payload, s, &mut kept.0, &mut kept.1, p, &mut kept.2).map(|_| ());
+        let r = residual_coding(payload, s, &mut kept.0, &mut kept.1, p, &mut kept.2).map(|_| ());
         assert_eq!(kept, ([64; CONTEXTS], [0; 4], [77; 16]));
         r
     };
@@ -132,7 +132,7 @@ fn flags_above_1() {
     let s = start(&payload).unwrap().raw();
     let (mut contexts, mut statistics, mut levels) = ([64u8; CONTEXTS], [0u8; 4], [77i32; 16]);
     let mut read = |payload: &[u8], s: raw::RawState, p: raw::RawParams| unsafe {
-        raw::bulmegart_read_block(payload.as_ptr(), payload.len(), s, contexts.as_mut_ptr(), statistics.as_mut_ptr(), p, levels.as_mut_ptr(), 16)
+        raw::bulmegart_residual_coding(payload.as_ptr(), payload.len(), s, contexts.as_mut_ptr(), statistics.as_mut_ptr(), p, levels.as_mut_ptr(), 16)
     };
     let p = Params::plain(2).raw();
     assert_eq!(read(&payload, raw::RawState { past: 65536, ..s }, p).number, 3);
@@ -150,11 +150,11 @@ fn flags_above_1() {
     assert_eq!(read(&payload, s, p).number, 0);
     let wrong = raw::RawState { ended: 2, range: 0, ..s };
     unsafe {
-        assert_eq!(raw::bulmegart_decision(payload.as_ptr(), 2, wrong, 200), raw::RawDecisionAnswer { number: 4, bin: 0, context: 200, state: wrong });
-        assert_eq!(raw::bulmegart_bypass(payload.as_ptr(), 2, wrong, 3).number, 4);
-        assert_eq!(raw::bulmegart_bypass_bin(payload.as_ptr(), 2, wrong).number, 4);
-        assert_eq!(raw::bulmegart_terminate(payload.as_ptr(), 2, wrong).number, 4);
-        assert_eq!(raw::bulmegart_raw_bits(payload.as_ptr(), 2, wrong, 3).number, 4);
+        assert_eq!(raw::bulmegart_decode_bin(payload.as_ptr(), 2, wrong, 200), raw::RawDecisionAnswer { number: 4, bin: 0, context: 200, state: wrong });
+        assert_eq!(raw::bulmegart_decode_bypass_bits(payload.as_ptr(), 2, wrong, 3).number, 4);
+        assert_eq!(raw::bulmegart_decode_bypass(payload.as_ptr(), 2, wrong).number, 4);
+        assert_eq!(raw::bulmegart_decode_terminate(payload.as_ptr(), 2, wrong).number, 4);
+        assert_eq!(raw::bulmegart_read_bits(payload.as_ptr(), 2, wrong, 3).number, 4);
         assert_eq!(raw::bulmegart_byte_align(payload.as_ptr(), 2, wrong), raw::RawStateAnswer { number: 4, state: wrong });
         assert_eq!(raw::bulmegart_restart(payload.as_ptr(), 2, wrong).number, 4);
         assert_eq!(raw::bulmegart_rest(payload.as_ptr(), 2, wrong), raw::RawRestAnswer { number: 4, first: 2, length: 0 });
@@ -339,7 +339,7 @@ fn scales_as_lists() {
             for room in 0..LONGEST_SCALE_LIST + 2 {
                 let mut lent = vec![255; room];
                 let fits = bytes.len() <= room;
-                assert_eq!(write_scale(component, scale, &mut lent), if fits { Ok(bytes.len()) } else { Err(ShortRoom) });
+                assert_eq!(write_scale_bins(component, scale, &mut lent), if fits { Ok(bytes.len()) } else { Err(ShortRoom) });
                 let mut wanted = vec![255; room];
                 if fits {
                     wanted[..bytes.len()].copy_from_slice(&bytes);
@@ -357,17 +357,17 @@ fn scales_as_lists() {
 #[test]
 fn scales_that_no_list_reads_as() {
     for scale in [3, -3, 5, 7, 9, -9, 16, -16, i32::MAX, i32::MIN] {
-        assert_eq!(write_scale(0, scale, &mut [255; 10]), Err(BadParameter));
+        assert_eq!(write_scale_bins(0, scale, &mut [255; 10]), Err(BadParameter));
     }
-    assert_eq!(write_scale(2, 0, &mut []), Err(BadParameter));
-    assert_eq!(write_scale(u32::MAX, 3, &mut []), Err(BadParameter));
-    assert_eq!(write_scale(0, -8, &mut [255; 9]), Err(ShortRoom));
+    assert_eq!(write_scale_bins(2, 0, &mut []), Err(BadParameter));
+    assert_eq!(write_scale_bins(u32::MAX, 3, &mut []), Err(BadParameter));
+    assert_eq!(write_scale_bins(0, -8, &mut [255; 9]), Err(ShortRoom));
 }
 
 #[test]
 fn refusals_say_their_number() {
-    for (k, refusal) in Refusal::ALL.into_iter().enumerate() {
-        assert_eq!(refusal.number(), k as u32 + 1);
+    assert_eq!(Refusal::ALL.map(Refusal::number), [1, 2, 3, 4, 5, 6, 7, 8, 9, 10, 11, 12, 13, 23, 24]);
+    for refusal in Refusal::ALL {
         assert_eq!(Refusal::of_number(refusal.number()), Some(refusal));
     }
     assert_eq!([Refusal::of_number(0), Refusal::of_number(14), Refusal::of_number(u32::MAX)], [None; 3]);
@@ -380,26 +380,26 @@ fn a_reader_carries_all() {
     let payload = [0xc9, 0x62, 0x0f, 0xc0];
     let mut reader = Reader::start(&payload, &[154; CONTEXTS], 26).unwrap();
     let mut levels = [0; 16];
-    assert_eq!(reader.read_block(Params::plain(2), &mut levels).unwrap().greatest, 5);
-    let second = reader.read_block(Params::plain(2), &mut levels).unwrap();
+    assert_eq!(reader.residual_coding(Params::plain(2), &mut levels).unwrap().greatest, 5);
+    let second = reader.residual_coding(Params::plain(2), &mut levels).unwrap();
     assert_eq!((second.column, second.row, levels[1], levels[4]), (1, 1, 1, -1));
     assert_eq!(reader.state, state(480, 479, 26));
     // a refused call moves nothing
     let kept = reader.clone();
-    assert_eq!(reader.read_block(Params::plain(6), &mut levels), Err(BadParameter));
+    assert_eq!(reader.residual_coding(Params::plain(6), &mut levels), Err(BadParameter));
     assert_eq!(reader.read_scale(2), Err(BadParameter));
-    assert_eq!(reader.bypass(33), Err(BadParameter));
+    assert_eq!(reader.decode_bypass_bits(33), Err(BadParameter));
     assert_eq!(reader.init_contexts(&[154; 120], 26), Err(BadParameter));
     assert_eq!(reader, kept);
     // each call as the function of its name
     let mut context = 64;
-    assert_eq!(reader.decision(&mut context).map(|bin| (bin, reader.state)), decision(&payload, kept.state, &mut { 64 }));
+    assert_eq!(reader.decode_bin(&mut context).map(|bin| (bin, reader.state)), decode_bin(&payload, kept.state, &mut { 64 }));
     let before = reader.state;
-    assert_eq!(reader.bypass_bin().map(|bin| (bin, reader.state)), bypass_bin(&payload, before));
+    assert_eq!(reader.decode_bypass().map(|bin| (bin, reader.state)), decode_bypass(&payload, before));
     let before = reader.state;
-    assert_eq!(reader.bypass(9).map(|value| (value, reader.state)), bypass(&payload, before, 9));
+    assert_eq!(reader.decode_bypass_bits(9).map(|value| (value, reader.state)), decode_bypass_bits(&payload, before, 9));
     let before = reader.state;
-    assert_eq!(reader.raw_bits(3).map(|value| (value, reader.state)), raw_bits(&payload, before, 3));
+    assert_eq!(reader.read_bits(3).map(|value| (value, reader.state)), read_bits(&payload, before, 3));
     let before = reader.state;
     assert_eq!(reader.read_scale(1).map(|scale| (scale, reader.state)), read_scale(&payload, before, &mut kept.contexts.clone(), 1));
     assert_eq!(reader.rest(), rest(&payload, reader.state));
@@ -411,7 +411,7 @@ fn a_reader_carries_all() {
     assert_eq!(Reader::start(&[0xff, 0xff], &[], 26), Err(BadParameter));
     assert_eq!(Reader::start(&[0xff, 0xff], &[154; CONTEXTS], 26), Err(BadStart));
     let mut ending = Reader::start(&[0xfe, 0x80], &[154; CONTEXTS], 26).unwrap();
-    assert_eq!((ending.terminate(), ending.terminate()), (Ok(true), Err(Ended)));
+    assert_eq!((ending.decode_terminate(), ending.decode_terminate()), (Ok(true), Err(Ended)));
 }
 
 #[test]
@@ -427,16 +427,17 @@ fn null_with_length_0() {
     unsafe {
         assert_eq!(raw::bulmegart_init_contexts(c, t, no_bytes, 0, 26), 4);
         assert_eq!(raw::bulmegart_start(no_bytes, 0).number, 1);
-        assert_eq!(raw::bulmegart_decision(no_bytes, 0, s, 64).number, 1);
-        assert_eq!(raw::bulmegart_bypass_bin(no_bytes, 0, s).number, 1);
-        assert_eq!(raw::bulmegart_bypass(no_bytes, 0, s, 3).number, 1);
-        assert_eq!(raw::bulmegart_terminate(no_bytes, 0, s).number, 1);
+        assert_eq!(raw::bulmegart_decode_bin(no_bytes, 0, s, 64).number, 1);
+        assert_eq!(raw::bulmegart_decode_bypass(no_bytes, 0, s).number, 1);
+        assert_eq!(raw::bulmegart_decode_bypass_bits(no_bytes, 0, s, 3).number, 1);
+        assert_eq!(raw::bulmegart_decode_terminate(no_bytes, 0, s).number, 1);
+        assert_eq!(raw::bulmegart_align_bypass(no_bytes, 0, s).number, 1);
         assert_eq!(raw::bulmegart_byte_align(no_bytes, 0, s).number, 1);
         assert_eq!(raw::bulmegart_rest(no_bytes, 0, s), raw::RawRestAnswer { number: 1, first: 0, length: 0 });
         assert_eq!(raw::bulmegart_restart(no_bytes, 0, s).number, 1);
-        assert_eq!(raw::bulmegart_raw_bits(no_bytes, 0, s, 3).number, 1);
-        assert_eq!(raw::bulmegart_read_block(no_bytes, 0, s, c, t, p, no_levels, 0).number, 1);
-        assert_eq!(raw::bulmegart_read_block(payload.as_ptr(), 2, s, c, t, p, no_levels, 0).number, 4);
+        assert_eq!(raw::bulmegart_read_bits(no_bytes, 0, s, 3).number, 1);
+        assert_eq!(raw::bulmegart_residual_coding(no_bytes, 0, s, c, t, p, no_levels, 0).number, 1);
+        assert_eq!(raw::bulmegart_residual_coding(payload.as_ptr(), 2, s, c, t, p, no_levels, 0).number, 4);
         assert_eq!(raw::bulmegart_read_bins(no_bytes, 0, t, p, no_levels, 0).number, 4);
         assert_eq!(raw::bulmegart_read_bins(no_bytes, 0, t, p, levels.as_mut_ptr(), 16).number, 13);
         assert_eq!(levels, [0; 16]);
@@ -446,7 +447,24 @@ fn null_with_length_0() {
         assert_eq!(raw::bulmegart_write_bins(p, t, levels.as_ptr(), 16, 0, 0, no_room, 0).number, 12);
         assert_eq!(raw::bulmegart_read_scale(no_bytes, 0, s, c, 0).number, 1);
         assert_eq!(raw::bulmegart_read_scale_bins(no_bytes, 0, 0).number, 13);
-        assert_eq!(raw::bulmegart_write_scale(0, 0, no_room, 0).number, 12);
+        assert_eq!(raw::bulmegart_write_scale_bins(0, 0, no_room, 0).number, 12);
     }
     assert_eq!((contexts, statistics), ([64; CONTEXTS], [0; 4]));
+}
+
+#[test]
+fn alignment_of_the_range() {
+    let payload = [0x80, 0];
+    let s = start(&payload).unwrap();
+    assert_eq!(s, state(510, 256, 9));
+    assert_eq!(align_bypass(&payload, s), Err(BadAlignment));
+    let below = State { offset: 255, past: 9, ..s };
+    assert_eq!(align_bypass(&payload, below), Ok(State { range: 256, ..below }));
+    assert_eq!(align_bypass(&payload, State { ended: true, ..s }), Err(Ended));
+    assert_eq!(align_bypass(&payload, State { position: 17, ended: true, ..s }), Err(ImpossibleState));
+    assert_eq!(align_bypass(&payload, State { range: 255, offset: 254, ..s }), Err(ImpossibleState));
+    assert_eq!(align_bypass(&[0x80], below), Err(ShortPayload));
+    let wrong = raw::RawState { range: 510, offset: 256, position: 9, ended: 2, past: 0 };
+    let r = unsafe { raw::bulmegart_align_bypass(payload.as_ptr(), 2, wrong) };
+    assert_eq!(r, raw::RawStateAnswer { number: 4, state: wrong });
 }

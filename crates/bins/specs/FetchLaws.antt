@@ -6,7 +6,8 @@ use mathlib.Core.List.{List}
 use native.Mathlib.Nat.{mul-le-mul-right, mod-eq-of-lt, div-eq-of-lt, div-div-eq-div-mul, div-one, pow-suc}
 use native.Mathlib.Omega.{arith}
 use lib.Arith.{digits-div, digits-mod}
-use lib.ListN.{length, getD}
+use lib.ListN.{length, getD, take}
+use lib.Seq.{take-all}
 use lib.Dec.{ltb}
 use lib.Pow.{pow-add, pow-pos}
 use borrow.Author.Tests.{ltb-true, ltb-false}
@@ -125,6 +126,10 @@ drawn-word l p i w c e q h k =
     let n : p + c ≡ ranOn l p c = omega arith in
     let o : 0 ≡ over l p c = sym (over-none l p c inside) in
     cc
+
+-- a list lent from its first place on
+pub lent-whole : (l : List ℕ) → take (length l - 0) l ≡ l
+lent-whole l = take-all (length l - 0) l (omega arith)
 
 pub drawn-parts : (l : List ℕ) (p c b n : ℕ) (next : BitPlace) → b ≡ bits l p c → next .0 ≡ ranOn l p c → n ≡ over l p c
     → _≡_ {A = Drawn} (record { bits = b; next = next; past = n }) (supplied l p c)

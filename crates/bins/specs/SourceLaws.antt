@@ -1,8 +1,9 @@
 -- A step of either source, as the code takes it by a Bool. Assumes nothing.
-use Prim.Native.Nat.{ℕ, _≤_, _<_}
+use Prim.Native.Nat.{ℕ, _+_, _*_, _/_, _%_, _^_, _≤_, _<_}
 use mathlib.Core.Path.{_≡_, refl, sym, ap, subst, _∙_}
 use mathlib.Core.Bool.{Bool, true, false, cond}
 use mathlib.Core.List.{List}
+use native.Mathlib.Nat.{mod-eq-of-lt, div-eq-of-lt}
 use native.Mathlib.Omega.{arith}
 use lib.ListN.{length}
 use lib.Dec.{ltb, leb}
@@ -13,10 +14,13 @@ use Rattle.bins.specs.declared.state.Step.{Step}
 use Rattle.bins.specs.declared.state.Step.the-variants as step
 use Rattle.bins.specs.Engine.{bitNo}
 use Rattle.bins.specs.Tags.{bypassNo}
-use Rattle.bins.specs.Interval.{placeOf, Goes, decidedOn, decidedValue, bypassedOn}
+use Rattle.bins.specs.Interval.{placeOf, ranOn, Goes, fetchedOn, decidedOn, decidedValue, bypassedOn}
 use Rattle.bins.specs.IntervalLaws.{bypassed-lt}
 use Rattle.bins.specs.CodeLaws.{bit-of}
-use Rattle.bins.specs.Syn.{Took, took, refused, Out}
+use Rattle.bins.specs.Bits.{bits}
+use Rattle.bins.specs.BitLaws.{bits-lt}
+use Rattle.bins.specs.Readers.{bitsS}
+use Rattle.bins.specs.Syn.{Took, took, refused, Out, run}
 use Rattle.bins.specs.Sources.{stepOf, stepOfBits, entryBin, entryAlign, binFrom, contextFrom, bypassFrom, alignFrom, entriesOn, bitsFrom, Readable}
 
 module _ (l : List ℕ) (x : Interval) where
@@ -56,6 +60,20 @@ module _ (l : List ℕ) (x : Interval) where
       ∙ ap (λ v. step.Bin v (bypassedOn l x 1 .next)) (sym (bit-of (bypassedOn l x 1 .value) (bypassed-lt l x 1 g)))
 
   -- ---- several
+  -- none: nothing is read
+  pub no-bits : (s : Bool) (n : ℕ) → n ≡ 0 → Readable s l x → step.Bin 0 x ≡ stepOfBits (bitsFrom s l n x)
+  unfolding bitsFrom entriesOn bypassedOn fetchedOn bitsS run
+  no-bits true n e h = rw e refl
+  no-bits false n e h =
+      let z : x .offset * 2 ^ 0 + bits l (placeOf x) 0 ≡ x .offset = omega (arith, bits-lt l (placeOf x) 0) in
+      let v : (x .offset * 2 ^ 0 + bits l (placeOf x) 0) / x .range ≡ 0 = ap (λ (k : ℕ). k / x .range) z ∙ div-eq-of-lt (h .below) in
+      let o : (x .offset * 2 ^ 0 + bits l (placeOf x) 0) % x .range ≡ x .offset = ap (λ (k : ℕ). k % x .range) z ∙ mod-eq-of-lt (h .below) in
+      let p : placeOf x ≡ ranOn l (placeOf x) 0 = omega (arith, h .fits) in
+      rw e
+      (ap (λ (k : ℕ). step.Bin 0 (record { range = x .range; offset = x .offset; at = record { 0 = k } })) p
+      ∙ ap (λ (k : ℕ). step.Bin 0 (record { range = x .range; offset = k; at = record { 0 = ranOn l (placeOf x) 0 } })) (sym o)
+      ∙ ap (λ (k : ℕ). step.Bin k (record { range = x .range; offset = (x .offset * 2 ^ 0 + bits l (placeOf x) 0) % x .range; at = record { 0 = ranOn l (placeOf x) 0 } })) (sym v))
+
   pub bits-listed : (s : Bool) (n : ℕ) (r : Step) → s ≡ true → r ≡ stepOfBits (entriesOn l n 0 x) → r ≡ stepOfBits (bitsFrom s l n x)
   unfolding bitsFrom
   bits-listed true n r q h = h

@@ -1,5 +1,5 @@
 -- An answer of a step taken apart: what it says of the source. Assumes nothing.
-use Prim.Native.Nat.{ℕ, zero, suc, _+_, _-_, _*_, _^_, _≤_, _<_}
+use Prim.Native.Nat.{_/_, _%_, ℕ, zero, suc, _+_, _-_, _*_, _^_, _≤_, _<_}
 use mathlib.Core.Path.{_≡_, refl, sym, ap, subst, _∙_}
 use mathlib.Core.Bool.{Bool, true, false, cond, _&&_}
 use mathlib.Core.List.{List}
@@ -9,7 +9,7 @@ use native.Mathlib.Numerals.{add-one}
 use Rattle.bins.specs.CodeLaws.{bin-readable}
 use lib.ListN.{length, getD}
 use lib.Dec.{ltb, eqb}
-use borrow.Author.Tests.{lt-ltb, le-ltb, eq-eqb, ne-eqb, eqb-true}
+use borrow.Author.Tests.{eqb-false, lt-ltb, le-ltb, eq-eqb, ne-eqb, eqb-true}
 use Rattle.bins.specs.declared.state.Interval.{Interval}
 use Rattle.bins.specs.declared.state.Step.{Step}
 use Rattle.bins.specs.declared.state.Step.the-variants as step
@@ -62,23 +62,35 @@ tagged-not l i t u h q = go (eqb (getD l i 0) (low u)) refl (eqb (getD l (i + 1)
 -- i is the place, t the tag that was found there, y the interval behind the entry
 module _ (l : List ℕ) (x : Interval) (i : ℕ) (at : i ≡ placeOf x) where
   module _ (c : ℕ) where
-    pub entry-zero : (t : ℕ) (y : Interval) → i + 1 < length l → Tagged l i t → t ≡ 2 * c → y ≡ behind x → step.Bin 0 y ≡ stepOf (entryBin l c x)
+    entry-zero : (t : ℕ) (y : Interval) → i + 1 < length l → Tagged l i t → t ≡ 2 * c → y ≡ behind x → step.Bin 0 y ≡ stepOf (entryBin l c x)
     unfolding entryBin binOf pickBin
     entry-zero t y h g q e =
         rw (lt-ltb (placeOf x + 1) (length l) (rw at at h), tagged-is l (placeOf x) t (2 * c + 0) (rw at at g) (omega arith)) (ap (step.Bin 0) e)
 
-    pub entry-one : (t : ℕ) (y : Interval) → i + 1 < length l → Tagged l i t → t ≡ 2 * c + 1 → y ≡ behind x → step.Bin 1 y ≡ stepOf (entryBin l c x)
+    entry-one : (t : ℕ) (y : Interval) → i + 1 < length l → Tagged l i t → t ≡ 2 * c + 1 → y ≡ behind x → step.Bin 1 y ≡ stepOf (entryBin l c x)
     unfolding entryBin binOf pickBin
     entry-one t y h g q e =
         let k : Tagged l (placeOf x) t = rw at at g in
         rw (lt-ltb (placeOf x + 1) (length l) (rw at at h), tagged-not l (placeOf x) t (2 * c + 0) k (λ z. omega arith), tagged-is l (placeOf x) t (2 * c + 1) k q)
         (ap (step.Bin 1) e)
 
-    pub entry-other : (t : ℕ) → i + 1 < length l → Tagged l i t → (t ≡ 2 * c → ⊥) → (t ≡ 2 * c + 1 → ⊥) → step.Refused 13 ≡ stepOf (entryBin l c x)
+    -- the number is the entry's half, the bin what is left of it
+    pub entry-half : (t : ℕ) (y : Interval) → i + 1 < length l → Tagged l i t → t / 2 ≡ c → y ≡ behind x → step.Bin (t % 2) y ≡ stepOf (entryBin l c x)
+    entry-half t y h g q e = go (eqb (t % 2) 0) refl
+      where
+        go : (b : Bool) → eqb (t % 2) 0 ≡ b → step.Bin (t % 2) y ≡ stepOf (entryBin l c x)
+        go true z =
+            let r : t % 2 ≡ 0 = eqb-true _ _ z in
+            ap (λ (n : ℕ). step.Bin n y) r ∙ entry-zero t y h g (omega arith) e
+        go false z =
+            let r : t % 2 ≡ 1 = omega (arith, eqb-false (t % 2) 0 z) in
+            ap (λ (n : ℕ). step.Bin n y) r ∙ entry-one t y h g (omega arith) e
+
+    pub entry-other : (t : ℕ) → i + 1 < length l → Tagged l i t → (t / 2 ≡ c → ⊥) → step.Refused 13 ≡ stepOf (entryBin l c x)
     unfolding entryBin binOf pickBin
-    entry-other t h g p q =
+    entry-other t h g p =
         let k : Tagged l (placeOf x) t = rw at at g in
-        rw (lt-ltb (placeOf x + 1) (length l) (rw at at h), tagged-not l (placeOf x) t (2 * c + 0) k (λ z. p (omega arith)), tagged-not l (placeOf x) t (2 * c + 1) k q)
+        rw (lt-ltb (placeOf x + 1) (length l) (rw at at h), tagged-not l (placeOf x) t (2 * c + 0) k (λ z. p (omega arith)), tagged-not l (placeOf x) t (2 * c + 1) k (λ z. p (omega arith)))
 
     pub entry-none : length l ≤ i + 1 → step.Refused 13 ≡ stepOf (entryBin l c x)
     unfolding entryBin

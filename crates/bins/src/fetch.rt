@@ -2,11 +2,11 @@
 use crate::places::BitPlace;
 use crate::places::byte_of;
 ghost use mathlib.Core.Path.{_≡_};
-ghost use Prim.Native.Nat.{_+_, _*_, _/_, _%_, _≤_, _<_};
+ghost use Prim.Native.Nat.{_+_, _*_, _/_, _%_, _≤_, _<_, min};
 ghost use lib.ListN.{length, getD};
 ghost use Rattle.bins.specs.Bits.{bitAt, bits, ends, over, pastMost};
 ghost use Rattle.bins.specs.FetchLaws.{LowFirst};
-ghost use Rattle.bins.specs.Interval.{ranOn, supplied};
+ghost use Rattle.bins.specs.Interval.{supplied};
 
 fn bit_at(bytes: &[u8], at: BitPlace) -> u32
     ensures { λ r. ⌜ r ≡ bitAt (now (bytes .entry)) (at .0) ⌝ }
@@ -83,18 +83,19 @@ pub fn draw(bytes: &[u8], at: BitPlace, c: u32) -> Drawn
     let byte = byte_of(at);
     let i = byte.0;
     let p = at.0;
+    let q = p + c as usize;
     if i + 4 <= bytes.len() {
         let word = word_at(bytes, i) << (p % 8);
         return Drawn {
             bits: ((word as u64) >> (32 - c)) as u32,
-            next: BitPlace(p + c as usize),
+            next: BitPlace(q),
             past: 0,
         };
     }
-    let next = moved(bytes, at, c);
+    let next = cut(bytes, BitPlace(q));
     let past = beyond(bytes, at, c);
     Drawn {
-        bits: one_by_one(bytes, at, c),
+        bits: one_by_one(&bytes[0..], at, c),
         next,
         past,
     }
@@ -119,12 +120,12 @@ pub fn fetch(bytes: &[u8], at: BitPlace, c: u32) -> Drawn
     }
 }
 
-// The place behind c bits. It runs on past the end, so that how far is known, and stops there at last.
-fn moved(bytes: &[u8], at: BitPlace, c: u32) -> BitPlace
-    requires { ⌜ (at .0 ≤ ends (now bytes) + pastMost) × (length (now bytes) ≤ 16777216) × (c ≤ 32) ⌝ }
-    ensures { λ r. ⌜ r .0 ≡ ranOn (now (bytes .entry)) (at .0) c ⌝ }
+// A place, that runs on past the end, so that how far is known, and stops there at last.
+fn cut(bytes: &[u8], at: BitPlace) -> BitPlace
+    requires { ⌜ length (now bytes) ≤ 16777216 ⌝ }
+    ensures { λ r. ⌜ r .0 ≡ min (at .0) (ends (now (bytes .entry)) + pastMost) ⌝ }
 {
-    let p = at.0 + c as usize;
+    let p = at.0;
     let most = 8 * bytes.len() + 65535;
     if p < most {
         BitPlace(p)

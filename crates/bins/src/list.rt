@@ -49,13 +49,9 @@ pub fn bin(bytes: &[u8], number: u32, x: Interval) -> Step
     let i = place.0;
     if i + 1 < bytes.len() {
         let entry = tag_at(bytes, i);
-        if entry == 2 * number {
+        if entry / 2 == number {
             let next = next_entry(x);
-            return Step::Bin(0, next);
-        }
-        if entry == 2 * number + 1 {
-            let next = next_entry(x);
-            return Step::Bin(1, next);
+            return Step::Bin(entry % 2, next);
         }
     }
     Step::Refused(13)

@@ -1,5 +1,6 @@
 // The arithmetic engine's state, between calls and while a block is read.
 use crate::places::BitPlace;
+ghost use mathlib.Core.Path.{_≡_};
 
 // Between calls: range, offset, position, an ended mark, and how many bits past the end were supplied since the first start, to 65,535.
 pub struct Engine {
@@ -27,4 +28,12 @@ pub struct Taken {
 pub enum Step {
     Bin(u32, Interval),
     Refused(u32),
+}
+
+// A step that is not refused.
+pub fn step_of(t: Taken) -> Step
+    ensures { λ r. ⌜ r ≡ Step.Bin (t .value) (t .next) ⌝ }
+{
+    let next = t.next;
+    Step::Bin(t.value, next)
 }

@@ -1,22 +1,15 @@
 // A step from whichever source a reader reads: a bin list, or a payload by the arithmetic engine.
-use crate::apart;
 use crate::list;
 use crate::payload;
+use crate::seldom;
 use crate::state::Interval;
 use crate::state::Step;
-use crate::state::Taken;
+use crate::state::step_of;
 use crate::tags::BYPASS;
 ghost use mathlib.Core.Path.{_≡_};
 ghost use Prim.Native.Nat.{_≤_, _<_};
 ghost use Rattle.tables.specs.Decisions.{decisions};
 ghost use Rattle.bins.specs.Sources.{Readable, stepOf, stepOfBits, binFrom, contextFrom, bypassFrom, bitsFrom, alignFrom};
-
-pub fn step_of(t: Taken) -> Step
-    ensures { λ r. ⌜ r ≡ Step.Bin (t .value) (t .next) ⌝ }
-{
-    let next = t.next;
-    Step::Bin(t.value, next)
-}
 
 // A bin with the lent context, whose number is given.
 pub fn decode_bin(
@@ -48,7 +41,7 @@ pub fn decode_bypass(list: bool, bytes: &[u8], x: Interval) -> Step
     step_of(t)
 }
 
-// n bypass bins as a number. Up to 16 of a payload are read here, the rest apart.
+// n bypass bins as a number. Up to 16 of a payload are read here, the rest by a call.
 pub fn decode_bypass_bits(list: bool, bytes: &[u8], x: Interval, n: u32) -> Step
     requires { ⌜ Readable list (now bytes) x × (n ≤ 32) ⌝ }
     ensures { λ r. ⌜ r ≡ stepOfBits (bitsFrom list (now (bytes .entry)) n x) ⌝ }
@@ -59,7 +52,7 @@ pub fn decode_bypass_bits(list: bool, bytes: &[u8], x: Interval, n: u32) -> Step
             return step_of(t);
         }
     }
-    apart::decode_bypass_bits(list, bytes, x, n)
+    seldom::decode_bypass_bits(list, bytes, x, n)
 }
 
 // The range becomes 256 before escape bytes; an offset that lies above it is 7.

@@ -1,6 +1,3 @@
-pub mod Handed
-pub mod Exported
-pub mod Blocks
-pub mod Laws
-pub mod Lists
-pub mod Scales
+pub mod Records
+pub mod RecordLaws
+pub mod Version

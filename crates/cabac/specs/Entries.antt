@@ -17,8 +17,8 @@ use Rattle.bins.specs.Bits.{ends, added}
 use Rattle.bins.specs.Interval.{settled}
 use Rattle.bins.specs.Tags.{contextCount}
 use Rattle.cabac.specs.Contexts.{initialAll}
-use Rattle.bins.specs.Engine.{Decided, Drawn, fetched, started, decided, bypassed, terminated, byteAligned, restarted, rawBits, alignedByte}
-use Rattle.cabac.specs.Numbers.{Answer, accepted, refused, _orElse_, unless, payloadRefusal, stateRefusal, contextRefusal, countRefusal, offsetRefusal, endedRefusal}
+use Rattle.bins.specs.Engine.{Decided, Drawn, fetched, started, decided, bypassed, terminated, rangeAligned, byteAligned, restarted, rawBits, alignedByte}
+use Rattle.cabac.specs.Numbers.{Answer, accepted, refused, _orElse_, unless, payloadRefusal, stateRefusal, contextRefusal, countRefusal, offsetRefusal, endedRefusal, alignmentRefusal}
 
 -- ---- what the code's answers say: document 01's number, 0 with the values
 abbrev pub stateSays : State → Answer Engine
@@ -70,6 +70,11 @@ bypassBits l e c =
 -- terminate: 1, 2, 3, 6
 unfoldable pub terminate : List ℕ → Engine → Answer Drawn
 terminate l e = unless (payloadRefusal l orElse stateRefusal l e orElse endedRefusal e) (terminated l e)
+
+-- alignment of the range, as before escape data: 1, 2, 3, 6, 7
+unfoldable pub alignBypass : List ℕ → Engine → Answer Engine
+alignBypass l e =
+    unless (payloadRefusal l orElse stateRefusal l e orElse endedRefusal e orElse alignmentRefusal e) (rangeAligned e)
 
 -- byte alignment: 1, 2, 3
 unfoldable pub byteAlign : List ℕ → Engine → Answer Engine

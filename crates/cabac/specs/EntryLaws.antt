@@ -19,13 +19,14 @@ use Rattle.bins.specs.declared.fetch.Drawn as fetch
 use Rattle.bins.specs.Bits.{bits, ends, after, pastMost, added}
 use Rattle.bins.specs.Tags.{contextCount}
 use Rattle.cabac.specs.Contexts.{slopeRaised, preRaised, held, packed, initial, initialAll}
-use Rattle.bins.specs.Engine.{bitNo, place, fetched, renormed, started, Decided, decided, Drawn, bypassed, terminatedBy, terminated, alignedByte, byteAligned, restarted, rawBits}
+use Rattle.bins.specs.Engine.{bitNo, place, fetched, renormed, started, Decided, decided, Drawn, bypassed, terminatedBy, terminated, rangeAligned, alignedByte, byteAligned, restarted, rawBits}
 use Rattle.bins.specs.Interval.{placeOf, ranOn, supplied, Goes, Renorms, renormedOn, decidedOn, decidedValue, bypassedOn, opened, settled}
 use Rattle.bins.specs.EngineRuns.{Runs, runs-goes}
-use Rattle.cabac.specs.Numbers.{Answer, accepted, refused, _orElse_, unless, payloadRefusal, stateRefusal, contextRefusal, countRefusal, offsetRefusal, endedRefusal}
-use Rattle.cabac.specs.NumberLaws.{or-else-assoc, or-else-first, or-else-rest, or-else-zero, unless-no, unless-yes, payload-passed, state-fits, state-counts, state-runs, context-high, context-fine, count-high, count-fine, count-passed, offset-high, offset-fine, ended-is, ended-not}
+use Rattle.cabac.specs.Numbers.{Answer, accepted, refused, _orElse_, unless, payloadRefusal, stateRefusal, contextRefusal, countRefusal, offsetRefusal, endedRefusal, alignmentRefusal}
+use Rattle.cabac.specs.NumberLaws.{or-else-assoc, or-else-first, or-else-rest, or-else-zero, unless-no, unless-yes, payload-passed, state-fits, state-counts, state-runs, context-high, context-fine, count-high, count-fine, count-passed, offset-high, offset-fine, ended-is, ended-not, alignment-high, alignment-fine}
+use Rattle.bins.specs.Syn.{Took, took, Reading, engineAlign}
 use Rattle.bins.specs.Settled.{settled-opened, settled-fetched, settled-decided, settled-bypassed}
-use Rattle.cabac.specs.Entries.{drawnAt, behindFetch, startedAt, start, decision, bypassBits, terminate, byteAlign, restOf, restart, raw, valuesRefusal, contextsAfter, statisticsAfter}
+use Rattle.cabac.specs.Entries.{drawnAt, behindFetch, startedAt, start, decision, bypassBits, terminate, alignBypass, byteAlign, restOf, restart, raw, valuesRefusal, contextsAfter, statisticsAfter}
 
 -- ---- initialisation
 pub slope-small : (v q : ℕ) → v ≤ 255 → q ≤ 51 → 5 * (v / 16) * q ≤ 3825
@@ -86,6 +87,11 @@ behind-code l e r o d at n p q =
 cut-ran : (l : List ℕ) (p c : ℕ) → min (ranOn l p c) (ends l) ≡ after l p c
 cut-ran l p c = omega arith
 
+-- what a step of a tree by the engine answers
+abbrev pub stepSays : Took Reading → Answer Engine
+stepSays (took b r) = accepted (r .engine)
+stepSays (Took.refused n) = refused n
+
 -- ---- the numbers, as the code finds them one after the other
 module _ (l : List ℕ) (e : Engine) where
   pub first-no : (n : ℕ) (b : ℕ) → n ≡ (payloadRefusal l orElse stateRefusal l e) → (n ≡ 0 → ⊥) → n ≡ (payloadRefusal l orElse stateRefusal l e orElse b)
@@ -104,6 +110,41 @@ module _ (l : List ℕ) (e : Engine) where
   -- a state that passed is what opening and settling gives
   passed-opened : 0 ≡ (payloadRefusal l orElse stateRefusal l e) → settled l e (opened e) ≡ e
   passed-opened q = let p = passed-fits q in settled-opened l e (p .1) (p .2)
+
+  -- ---- alignment of the range
+  pub align-bypass-no : (n : ℕ) → n ≡ (payloadRefusal l orElse stateRefusal l e) → (n ≡ 0 → ⊥) → refused n ≡ alignBypass l e
+  unfolding alignBypass
+  align-bypass-no n q h = unless-no n _ (rangeAligned e) (first-no n (endedRefusal e orElse alignmentRefusal e) q h) h
+
+  pub align-bypass-ended : 0 ≡ (payloadRefusal l orElse stateRefusal l e) → e .ended ≡ true → refused 6 ≡ alignBypass l e
+  unfolding alignBypass
+  align-bypass-ended q k =
+      unless-no 6 _ (rangeAligned e) (first-passed 6 (endedRefusal e orElse alignmentRefusal e) q
+      (or-else-first 6 (endedRefusal e) (alignmentRefusal e) (ended-is e k) (λ z. omega arith))) (λ z. omega arith)
+
+  pub align-bypass-high : 0 ≡ (payloadRefusal l orElse stateRefusal l e) → e .ended ≡ false → 256 ≤ e .offset → refused 7 ≡ alignBypass l e
+  unfolding alignBypass
+  align-bypass-high q k h =
+      unless-no 7 _ (rangeAligned e) (first-passed 7 (endedRefusal e orElse alignmentRefusal e) q
+      (or-else-rest 7 (endedRefusal e) (alignmentRefusal e) (ended-not e k) (alignment-high e h))) (λ z. omega arith)
+
+  pub align-bypass-yes : 0 ≡ (payloadRefusal l orElse stateRefusal l e) → e .ended ≡ false → e .offset < 256
+      → accepted (record { range = 256; offset = e .offset; at = e .at; ended = e .ended; past = e .past }) ≡ alignBypass l e
+  unfolding alignBypass rangeAligned
+  align-bypass-yes q k h =
+      unless-yes _ _ (rangeAligned e) (first-passed 0 (endedRefusal e orElse alignmentRefusal e) q
+      (or-else-rest 0 (endedRefusal e) (alignmentRefusal e) (ended-not e k) (alignment-fine e h))) refl
+
+  -- the same as where a block's tree aligns
+  pub aligned-step : (contexts : List ℕ) → 0 ≡ (payloadRefusal l orElse stateRefusal l e) → e .ended ≡ false
+      → stepSays (engineAlign (record { engine = e; contexts = contexts })) ≡ alignBypass l e
+  unfolding engineAlign rangeAligned
+  aligned-step contexts q k = go (ltb (e .offset) 256) refl
+    where
+      go : (d : Bool) → ltb (e .offset) 256 ≡ d
+          → stepSays (cond d (took false (record { engine = rangeAligned e; contexts = contexts })) (Took.refused 7)) ≡ alignBypass l e
+      go true h = align-bypass-yes q k (ltb-true (e .offset) 256 h)
+      go false h = align-bypass-high q k (ltb-false (e .offset) 256 h)
 
   -- ---- byte alignment
   pub byte-align-no : (n : ℕ) → n ≡ (payloadRefusal l orElse stateRefusal l e) → (n ≡ 0 → ⊥) → refused n ≡ byteAlign l e

@@ -11,7 +11,7 @@ use Rattle.bins.specs.declared.state.Engine.{Engine}
 use Rattle.bins.specs.Bits.{ends, pastMost}
 use Rattle.bins.specs.Engine.{place}
 use Rattle.bins.specs.EngineRuns.{Runs}
-use Rattle.cabac.specs.Numbers.{Answer, accepted, refused, _orElse_, unless, payloadRefusal, possible, stateRefusal, contextRefusal, countRefusal, offsetRefusal, endedRefusal}
+use Rattle.cabac.specs.Numbers.{Answer, accepted, refused, _orElse_, unless, payloadRefusal, possible, stateRefusal, contextRefusal, countRefusal, offsetRefusal, endedRefusal, alignmentRefusal}
 
 -- ---- a number and then another
 pub or-else-assoc : (a b c : ℕ) → ((a orElse b) orElse c) ≡ (a orElse b orElse c)
@@ -187,3 +187,11 @@ ended-is e q = rw q
 pub ended-not : (e : Engine) → e .ended ≡ false → 0 ≡ endedRefusal e
 unfolding endedRefusal
 ended-not e q = rw q
+
+pub alignment-high : (e : Engine) → 256 ≤ e .offset → 7 ≡ alignmentRefusal e
+unfolding alignmentRefusal
+alignment-high e h = rw (le-leb 256 (e .offset) h)
+
+pub alignment-fine : (e : Engine) → e .offset < 256 → 0 ≡ alignmentRefusal e
+unfolding alignmentRefusal
+alignment-fine e h = rw (lt-leb 256 (e .offset) h)

@@ -51,3 +51,7 @@ offsetRefusal e = cond (leb 510 (e .offset)) 5 0
 -- 6: the engine has ended
 unfoldable pub endedRefusal : Engine → ℕ
 endedRefusal e = cond (e .ended) 6 0
+
+-- 7: alignment wanted while the offset is 256 or more
+unfoldable pub alignmentRefusal : Engine → ℕ
+alignmentRefusal e = cond (leb 256 (e .offset)) 7 0

@@ -303,6 +303,31 @@ pub fn decode_terminate(bytes: &[u8], e: Engine) -> Bins
     Bins::Read(0, state)
 }
 
+// Alignment of the range, as before escape data: 256, and nothing is drawn.
+pub fn align_bypass(bytes: &[u8], e: Engine) -> State
+    ensures { λ r. ⌜ stateSays r ≡ entries.alignBypass (now (bytes .entry)) e ⌝ }
+{
+    let n = refusal(bytes, e);
+    if n != 0 {
+        return State::Refused(n);
+    }
+    if e.ended {
+        return State::Refused(6);
+    }
+    if 256 <= e.offset {
+        return State::Refused(7);
+    }
+    let at = e.at;
+    let state = Engine {
+        range: 256,
+        offset: e.offset,
+        at,
+        ended: e.ended,
+        past: e.past,
+    };
+    State::Ready(state)
+}
+
 // Byte alignment: the position rounded up to a whole byte.
 pub fn byte_align(bytes: &[u8], e: Engine) -> State
     ensures { λ r. ⌜ stateSays r ≡ entries.byteAlign (now (bytes .entry)) e ⌝ }

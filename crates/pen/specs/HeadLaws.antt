@@ -12,15 +12,15 @@ use borrow.Author.Tests.{lt-ltb, le-leb, lt-leb}
 use Rattle.tables.specs.Table.{le-below}
 use Rattle.bins.specs.Syn.{done, _>>=_}
 use Rattle.bins.specs.Readers.{flagIf, bitsS, prefixS}
-use Rattle.residual.specs.declared.params.Params.{Params}
-use Rattle.residual.specs.declared.params.Rdpcm.{Rdpcm}
-use Rattle.residual.specs.declared.params.Rdpcm.the-variants as ofRdpcm
-use Rattle.residual.specs.Layout.{atLastX, atLastY, atSkip, atRdpcmFlag, atRdpcmDir, inChroma}
-use Rattle.residual.specs.Wanted.{Wanted, S, area, outerOf, innerOf}
-use Rattle.residual.specs.Scan.{Spot, spot}
-use Rattle.residual.specs.Head.{Head, headS, groupsS, lastPrefix, lastWanted, leastOf, suffixBits, greatestGroup, rdpcmFlag, rdpcmDir, rdpcmOf, skipCoded, rdpcmCoded}
-use Rattle.elements.specs.HeadAgree.{placedAt}
-use Rattle.elements.specs.HeadLaws.{behindSkip, behindFlag, behindDir, behindGroups, behindSuffixX, wantedX, wantedY, last-luma, last-chroma}
+use Rattle.hevc_residual.specs.declared.params.Params.{Params}
+use Rattle.hevc_residual.specs.declared.params.Rdpcm.{Rdpcm}
+use Rattle.hevc_residual.specs.declared.params.Rdpcm.the-variants as ofRdpcm
+use Rattle.hevc_residual.specs.Layout.{atLastX, atLastY, atSkip, atRdpcmFlag, atRdpcmDir, inChroma}
+use Rattle.hevc_residual.specs.Wanted.{Wanted, S, area, outerOf, innerOf}
+use Rattle.hevc_residual.specs.Scan.{Spot, spot}
+use Rattle.hevc_residual.specs.Head.{Head, headS, groupsS, lastPrefix, lastWanted, leastOf, suffixBits, greatestGroup, rdpcmFlag, rdpcmDir, rdpcmOf, skipCoded, rdpcmCoded}
+use Rattle.hevc_elements.specs.HeadAgree.{placedAt}
+use Rattle.hevc_elements.specs.HeadLaws.{behindSkip, behindFlag, behindDir, behindGroups, behindSuffixX, wantedX, wantedY, last-luma, last-chroma}
 use Rattle.pen.specs.Sheet.{Sheet, Wrote, Counts}
 use Rattle.pen.specs.SheetLaws.{wrote-none, wrote-on, wrote-then, wrote-call}
 

@@ -1,5 +1,7 @@
 pub mod Sheet
 pub mod SheetLaws
 pub mod ShapeLaws
-pub mod RemainderLaws
+pub mod PlainLaws
+pub mod RoomPuts
 pub mod HeadLaws
+pub mod RemainderLaws

@@ -10,13 +10,15 @@ use lib.Dec.{ltb, leb, eqb}
 use borrow.Author.Tests.{eqb-false, ltb-true, ltb-false, lt-ltb, le-ltb, le-leb, lt-leb, eq-eqb, ne-eqb}
 use Rattle.bins.specs.Syn.{done, stop, _>>=_}
 use Rattle.bins.specs.Readers.{bitsS, onesS}
-use Rattle.residual.specs.declared.params.Params.{Params}
-use Rattle.residual.specs.Wanted.{Wanted, S}
-use Rattle.residual.specs.Remainder.{log2TransformRange, egBase, egkS, limitedS, remainderS}
-use Rattle.elements.specs.RemainderLaws.{range-within, shl-32}
-use Rattle.elements.specs.RemainderAgree.{escapeLength, escapeS}
+use Rattle.trees.specs.ShapeLaws.{eg-suc}
+use Rattle.hevc_residual.specs.declared.params.Params.{Params}
+use Rattle.hevc_residual.specs.Wanted.{Wanted, S}
+use Rattle.hevc_residual.specs.Remainder.{log2TransformRange, egBase, egkS, limitedS, remainderS}
+use Rattle.hevc_elements.specs.RemainderLaws.{range-within, shl-32}
+use Rattle.hevc_elements.specs.RemainderAgree.{escapeLength, escapeS}
 use Rattle.pen.specs.Sheet.{Sheet, Wrote, Counts}
-use Rattle.pen.specs.SheetLaws.{wrote-none, wrote-on, wrote-then, wrote-call}
+use Rattle.pen.specs.SheetLaws.{wrote-then, wrote-call}
+use Rattle.pen.specs.PlainLaws.{pick, passed, taken, escaped-written}
 
 -- ---- the prefix of an Exp-Golomb code of order k has n ones for v
 pub record Prefixed (k v most n : ℕ) : Type 0 where
@@ -53,13 +55,6 @@ module _ (k v most : ℕ) where
   counted-all n c h = record { upto = c .upto; reached = c .reached; left = λ m. absurd (omega arith) }
 
 -- ---- the rest fits its suffix
-egBase-next : (k n : ℕ) → egBase k (suc n) ≡ egBase k n + 2 ^ (n + k)
-egBase-next k n =
-    let a : 2 ^ suc n ≡ 2 ^ n * 2 = pow-suc 2 n in
-    let b : 2 ^ suc n - 1 ≡ (2 ^ n - 1) + 2 ^ n = omega (arith, pow-pos n) in
-    let c : (2 ^ suc n - 1) * 2 ^ k ≡ ((2 ^ n - 1) + 2 ^ n) * 2 ^ k = ap (λ i. i * 2 ^ k) b in
-    c ∙ add-mul (2 ^ n - 1) (2 ^ n) (2 ^ k) ∙ ap (λ i. (2 ^ n - 1) * 2 ^ k + i) (sym (pow-add 2 n k))
-
 module _ (k v most n : ℕ) (c : Prefixed k v most n) where
   pub base-reached : egBase k n ≤ v
   base-reached = go n (c .reached)
@@ -76,7 +71,7 @@ module _ (k v most n : ℕ) (c : Prefixed k v most n) where
       go zero q = omega arith
       go (suc m) q =
           let a : egBase k (suc m) ≤ v = c .reached m (omega arith) in
-          let b : egBase k (suc m) ≡ egBase k m + 2 ^ (m + k) = egBase-next k m in
+          let b : egBase k (suc m) ≡ egBase k m + 2 ^ (m + k) = eg-suc k m in
           let d : 2 ^ (m + k) < 2 ^ 22 = omega arith in
           let e : m + k < 22 = small (m + k) (ltb (m + k) 22) refl d in
           omega arith
@@ -88,40 +83,13 @@ module _ (k v most n : ℕ) (c : Prefixed k v most n) where
   pub rest-fits : n < most → v - egBase k n < 2 ^ (n + k)
   rest-fits h =
       let a : v < egBase k (suc n) = c .left h in
-      let b : egBase k (suc n) ≡ egBase k n + 2 ^ (n + k) = egBase-next k n in
+      let b : egBase k (suc n) ≡ egBase k n + 2 ^ (n + k) = eg-suc k n in
       omega (arith, base-reached)
 
   -- and the prefix is what is wanted of it
-  pub prefix-counts : (want : Wanted → ℕ) (w : Wanted) → want w ≡ v → Counts (λ g t. leb (egBase k (suc g)) (want t)) w n most
+  pub prefix-counts : {B : Type 0} (want : B → ℕ) (w : B) → want w ≡ v → Counts (λ g t. leb (egBase k (suc g)) (want t)) w n most
   prefix-counts want w q =
       (λ g h. rw q (le-leb (egBase k (suc g)) v (c .reached g h)), λ h. rw q (lt-leb (egBase k (suc n)) v (c .left h)))
-
--- ---- ones, a test that does not stop them, a suffix
-abbrev pick : Bool → S ℕ → S ℕ → S ℕ
-pick b t e = elim b [ true ↦ t | false ↦ e ]
-
-passed : (b : Bool) (t e u : S ℕ) (w : Wanted) (s s′ : Sheet) → b ≡ false → Wrote u (pick b t e) w s s′ → Wrote u e w s s′
-passed b t e u w s s′ q h = subst (λ z. Wrote u (pick z t e) w s s′) q h
-
-taken : (b : Bool) (t e u : S ℕ) (w : Wanted) (s s′ : Sheet) → b ≡ true → Wrote u (pick b t e) w s s′ → Wrote u t w s s′
-taken b t e u w s s′ q h = subst (λ z. Wrote u (pick z t e) w s s′) q h
-
-module _ (m : ℕ) (one : ℕ → Wanted → Bool) (test : ℕ → Bool) (len base : ℕ → ℕ) (want : Wanted → ℕ) (w : Wanted) where
-  abbrev suffixed : ℕ → S ℕ
-  suffixed n = bitsS (len n) 0 (λ t. want t - base n) >>= λ u. done (base n + u)
-
-  abbrev escaped : S ℕ
-  escaped = onesS m 0 one >>= λ n. pick (test n) (stop 8) (suffixed n)
-
-  escaped-written : (v n : ℕ) (s s₁ s₂ : Sheet) → test n ≡ false → want w ≡ v → base n ≤ v → Wrote (onesS m 0 one) (done n) w s s₁
-      → ((x : Wanted → ℕ) (t : Wanted) → x t ≡ v - base n → Wrote (bitsS (len n) 0 x) (done (v - base n)) t s₁ s₂) → Wrote escaped (done v) w s s₂
-  escaped-written v n s s₁ s₂ q e b f g =
-      let next : ℕ → S ℕ = λ n. pick (test n) (stop 8) (suffixed n) in
-      let a : Wrote escaped (suffixed n) w s s₁ = passed (test n) (stop 8) (suffixed n) escaped w s s₁ q (wrote-then w (onesS m 0 one) next n s s₁ f) in
-      let x : want w - base n ≡ v - base n = ap (λ i. i - base n) e in
-      let r = wrote-call w escaped (bitsS (len n) 0 (λ t. want t - base n)) (λ u. done (base n + u)) (v - base n) s s₁ s₂ a (g (λ t. want t - base n) w x) in
-      let y : base n + (v - base n) ≡ v = omega arith in
-      subst (λ i. Wrote escaped (done i) w s s₂) y r
 
 or-none : (a b : Bool) → a ≡ false → b ≡ false → (a || b) ≡ false
 or-none true b p q = p

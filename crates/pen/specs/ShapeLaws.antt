@@ -14,8 +14,8 @@ use Rattle.bins.specs.Engine.{bitNo}
 use Rattle.bins.specs.Tags.{tag, bypassNo}
 use Rattle.bins.specs.Syn.{Syn, done, bin, bypass, _>>=_}
 use Rattle.bins.specs.Readers.{odd, flagIf, bitsS, onesS, prefixS}
-use Rattle.residual.specs.Wanted.{Wanted, S}
-use Rattle.elements.specs.ShapeLaws.{Counter, prefix-counter, ones-counter}
+use Rattle.trees.specs.Shapes.{countS}
+use Rattle.trees.specs.Counters.{Counter}
 use Rattle.pen.specs.Sheet.{Sheet, entered, Wrote, Counts}
 use Rattle.pen.specs.SheetLaws.{entered-long, wrote-none, wrote-on, wrote-bin, wrote-bypass, wrote-then}
 
@@ -32,7 +32,7 @@ module _ (n v : ℕ) (s : Sheet) where
   pub record Bits (k : ℕ) (s′ : Sheet) : Type 0 where
     pub few : k ≤ n
     pub long : length (s′ .room) ≡ length (s .room)
-    pub left : (want : Wanted → ℕ) (w : Wanted) → want w ≡ v → Wrote (bitsS n 0 want) (bitsS k (v / 2 ^ k) want) w s s′
+    pub left : (want : ℕ → ℕ) (w : ℕ) → want w ≡ v → Wrote (bitsS n 0 want) (bitsS k (v / 2 ^ k) want) w s s′
 
   pub bits-begin : v < 2 ^ n → Bits n s
   bits-begin h =
@@ -65,7 +65,7 @@ module _ (n v : ℕ) (s : Sheet) where
               wrote-on w (bitsS n 0 want) (bitsS (suc j) (v / 2 ^ suc j) want) (bitsS j (v / 2 ^ j) want) s s′ (entered (tag bypassNo b) s′) f g′;
         }
 
-    pub bits-end : k ≡ 0 → (want : Wanted → ℕ) (w : Wanted) → want w ≡ v → Wrote (bitsS n 0 want) (done v) w s s′
+    pub bits-end : k ≡ 0 → (want : ℕ → ℕ) (w : ℕ) → want w ≡ v → Wrote (bitsS n 0 want) (done v) w s s′
     unfolding bitsS
     bits-end e want w q =
         let z : v / 2 ^ 0 ≡ v = omega arith in
@@ -73,7 +73,7 @@ module _ (n v : ℕ) (s : Sheet) where
         (subst (λ i. Wrote (bitsS n 0 want) (bitsS i (v / 2 ^ i) want) w s s′) e (h .left want w q))
 
 -- ---- a flag
-module _ (coded : Bool) (number : ℕ) (s : Sheet) (flag : Bool) (want : Wanted → Bool) (w : Wanted) (q : coded ≡ true → want w ≡ flag) where
+module _ {B : Type 0} (coded : Bool) (number : ℕ) (s : Sheet) (flag : Bool) (want : B → Bool) (w : B) (q : coded ≡ true → want w ≡ flag) where
   pub flag-put : coded ≡ true → Wrote (flagIf coded number want) (done (coded && flag)) w s (entered (tag number flag) s)
   flag-put e =
       rw e (subst (λ b. Wrote (bin number want done) (done b) w s (entered (tag number b) s)) (q e) (wrote-bin w number want done s))
@@ -82,23 +82,26 @@ module _ (coded : Bool) (number : ℕ) (s : Sheet) (flag : Bool) (want : Wanted 
   flag-left e = rw e (wrote-none w (done false) s)
 
 -- ---- ones counted up to a greatest count; tagOf g is the number of the context of bin g
-pub record Putter (one : ℕ → (Wanted → Bool) → S Bool) (numberOf : ℕ → ℕ) : Type 0 where
-  pub put : (g : ℕ) (v : Wanted → Bool) (w : Wanted) (s : Sheet) → Wrote (one g v) (done (v w)) w s (entered (tag (numberOf g) (v w)) s)
+pub record Putter {B : Type 0} (one : ℕ → (B → Bool) → Syn B Bool) (numberOf : ℕ → ℕ) : Type 0 where
+  pub put : (g : ℕ) (v : B → Bool) (w : B) (s : Sheet) → Wrote (one g v) (done (v w)) w s (entered (tag (numberOf g) (v w)) s)
 
-pub prefix-putter : (base sh : ℕ) → Putter (λ g v. bin (base + g / 2 ^ sh) v done) (λ g. base + g / 2 ^ sh)
+pub prefix-putter : {B : Type 0} (base sh : ℕ) → Putter {B = B} (λ g v. bin (base + g / 2 ^ sh) v done) (λ g. base + g / 2 ^ sh)
 prefix-putter base sh = record { put = λ g v w s. wrote-bin w (base + g / 2 ^ sh) v done s }
 
-pub ones-putter : Putter (λ g v. bypass v done) (λ g. bypassNo)
+pub count-putter : {B : Type 0} (ctx : ℕ → ℕ) → Putter {B = B} (λ g v. bin (ctx g) v done) ctx
+count-putter ctx = record { put = λ g v w s. wrote-bin w (ctx g) v done s }
+
+pub ones-putter : {B : Type 0} → Putter {B = B} (λ g v. bypass v done) (λ g. bypassNo)
 ones-putter = record { put = λ g v w s. wrote-bypass w v done s }
 
-module _ {T : ℕ → ℕ → (ℕ → Wanted → Bool) → S ℕ} {one : ℕ → (Wanted → Bool) → S Bool} {numberOf : ℕ → ℕ}
+module _ {B : Type 0} {T : ℕ → ℕ → (ℕ → B → Bool) → Syn B ℕ} {one : ℕ → (B → Bool) → Syn B Bool} {numberOf : ℕ → ℕ}
     (T-counts : Counter T one) (T-puts : Putter one numberOf) (n most : ℕ) (s : Sheet) where
   -- in the loop, at count g
   pub record Ones (g : ℕ) (s′ : Sheet) : Type 0 where
     pub within : n ≤ most
     pub few : g ≤ n
     pub long : length (s′ .room) ≡ length (s .room)
-    pub left : (want : ℕ → Wanted → Bool) (w : Wanted) → Counts want w n most → Wrote (T most 0 want) (T (most - g) g want) w s s′
+    pub left : (want : ℕ → B → Bool) (w : B) → Counts want w n most → Wrote (T most 0 want) (T (most - g) g want) w s s′
 
   pub ones-begin : n ≤ most → Ones 0 s
   ones-begin within =
@@ -106,10 +109,10 @@ module _ {T : ℕ → ℕ → (ℕ → Wanted → Bool) → S ℕ} {one : ℕ �
       record { within = within; few = omega arith; long = refl; left = λ want w c. subst (λ i. Wrote (T most 0 want) (T i 0 want) w s s) m (wrote-none w (T most 0 want) s) }
 
   module _ (g : ℕ) (s′ : Sheet) (h : Ones g s′) where
-    next : ℕ → (ℕ → Wanted → Bool) → Bool → S ℕ
+    next : ℕ → (ℕ → B → Bool) → Bool → Syn B ℕ
     next m want b = elim b [ true ↦ T m (suc g) want | false ↦ done g ]
 
-    step : g < most → (want : ℕ → Wanted → Bool) (w : Wanted) → Counts want w n most → (b : Bool) → want g w ≡ b
+    step : g < most → (want : ℕ → B → Bool) (w : B) → Counts want w n most → (b : Bool) → want g w ≡ b
         → Wrote (T most 0 want) (next (most - (g + 1)) want b) w s (entered (tag (numberOf g) b) s′)
     unfolding next
     step k want w c b q =
@@ -136,7 +139,7 @@ module _ {T : ℕ → ℕ → (ℕ → Wanted → Bool) → S ℕ} {one : ℕ �
               (step (omega (arith, h .within)) want w c true (c .0 g k));
         }
 
-    pub ones-zero : n ≤ g → n < most → (want : ℕ → Wanted → Bool) (w : Wanted) → Counts want w n most
+    pub ones-zero : n ≤ g → n < most → (want : ℕ → B → Bool) (w : B) → Counts want w n most
         → Wrote (T most 0 want) (done n) w s (entered (tag (numberOf n) false) s′)
     unfolding next
     ones-zero k m want w c =
@@ -144,7 +147,7 @@ module _ {T : ℕ → ℕ → (ℕ → Wanted → Bool) → S ℕ} {one : ℕ �
         subst (λ i. Wrote (T most 0 want) (done i) w s (entered (tag (numberOf i) false) s′)) e
         (step (omega (arith, h .few)) want w c false (subst (λ i. want i w ≡ false) (sym e) (c .1 m)))
 
-    pub ones-most : n ≤ g → most ≤ n → (want : ℕ → Wanted → Bool) (w : Wanted) → Counts want w n most → Wrote (T most 0 want) (done n) w s s′
+    pub ones-most : n ≤ g → most ≤ n → (want : ℕ → B → Bool) (w : B) → Counts want w n most → Wrote (T most 0 want) (done n) w s s′
     ones-most k m want w c =
         let e : g ≡ n = omega (arith, h .few) in
         let z : most - g ≡ 0 = omega (arith, h .few) in

@@ -6,8 +6,7 @@ use mathlib.Core.List.{List, [], _∷_}
 use lib.ListN.{length, set}
 use lib.Dec.{ltb}
 use Rattle.bins.specs.Tags.{low, high}
-use Rattle.bins.specs.Syn.{Written, write}
-use Rattle.residual.specs.Wanted.{Wanted, S}
+use Rattle.bins.specs.Syn.{Syn, Written, write}
 use Rattle.pen.specs.declared.room.Pen.{Pen}
 
 pub record Sheet : Type 0 where
@@ -37,9 +36,9 @@ enteredAll [] s = s
 enteredAll (x ∷ l) s = enteredAll l (inked x s)
 
 -- From s to s′ so much of t was written for w that u is left: whatever list t has, what is left of it is u's, and both end at the same sheet.
-pub record Wrote {A : Type 0} (t u : S A) (w : Wanted) (s s′ : Sheet) : Type 0 where
+pub record Wrote {B A : Type 0} (t u : Syn B A) (w : B) (s s′ : Sheet) : Type 0 where
   pub leads : (a : A) (l : List ℕ) → write t w ≡ Written.ok a l → (m : List ℕ) × (write u w ≡ Written.ok a m) × (enteredAll l s ≡ enteredAll m s′)
 
 -- a prefix of ones is wanted to be n long, of at most so many
-abbrev pub Counts : (ℕ → Wanted → Bool) → Wanted → ℕ → ℕ → Type 0
+abbrev pub Counts : {B : Type 0} → (ℕ → B → Bool) → B → ℕ → ℕ → Type 0
 Counts want w n most = ((g : ℕ) → g < n → want g w ≡ true) × (n < most → want n w ≡ false)

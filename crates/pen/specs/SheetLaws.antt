@@ -10,7 +10,6 @@ use borrow.Author.Tests.{lt-ltb, le-ltb}
 use Rattle.bins.specs.Tags.{tag, bypassNo, alignTag, low, high, entry}
 use Rattle.bins.specs.Syn.{Syn, done, stop, bin, bypass, align, _>>=_, Written, also, write}
 use Rattle.bins.specs.WriteLaws.{behind, thenWrite, write-bind}
-use Rattle.residual.specs.Wanted.{Wanted, S}
 use Rattle.pen.specs.declared.room.Pen.{Pen}
 use Rattle.pen.specs.Sheet.{Sheet, sheet, moved, inked, entered, enteredAll, Wrote}
 
@@ -68,11 +67,11 @@ behind-spells : {A : Type 0} (l₁ : List ℕ) (o : Written A) (a : A) (l : List
 behind-spells l₁ (Written.ok a′ m) a l q = (m, cc, cc)
 behind-spells l₁ (Written.no r) a l q = let z : _≡_ {A = ℕ} 0 1 = cc in absurd (omega arith)
 
-module _ {A : Type 0} (w : Wanted) where
-  pub wrote-none : (t : S A) (s : Sheet) → Wrote t t w s s
+module _ {B A : Type 0} (w : B) where
+  pub wrote-none : (t : Syn B A) (s : Sheet) → Wrote t t w s s
   wrote-none t s = record { leads = λ a l q. (l, q, refl) }
 
-  pub wrote-on : (t u v : S A) (s s′ s″ : Sheet) → Wrote t u w s s′ → Wrote u v w s′ s″ → Wrote t v w s s″
+  pub wrote-on : (t u v : Syn B A) (s s′ s″ : Sheet) → Wrote t u w s s′ → Wrote u v w s′ s″ → Wrote t v w s s″
   wrote-on t u v s s′ s″ f g =
       record {
         leads = λ a l q.
@@ -81,7 +80,7 @@ module _ {A : Type 0} (w : Wanted) where
             (y .0, y .1, x .2 ∙ y .2);
       }
 
-  one-more : (t u : S A) (x : ℕ) (s : Sheet) → write t w ≡ also x (write u w) → Wrote t u w s (entered x s)
+  one-more : (t u : Syn B A) (x : ℕ) (s : Sheet) → write t w ≡ also x (write u w) → Wrote t u w s (entered x s)
   unfolding entered enteredAll
   one-more t u x s e =
       record {
@@ -90,30 +89,30 @@ module _ {A : Type 0} (w : Wanted) where
             (f .0, f .1, ap (λ (z : List ℕ). enteredAll z s) (f .2));
       }
 
-  pub wrote-bin : (c : ℕ) (v : Wanted → Bool) (k : Bool → S A) (s : Sheet) → Wrote (bin c v k) (k (v w)) w s (entered (tag c (v w)) s)
+  pub wrote-bin : (c : ℕ) (v : B → Bool) (k : Bool → Syn B A) (s : Sheet) → Wrote (bin c v k) (k (v w)) w s (entered (tag c (v w)) s)
   unfolding write
   wrote-bin c v k s = one-more (bin c v k) (k (v w)) (tag c (v w)) s refl
 
-  pub wrote-bypass : (v : Wanted → Bool) (k : Bool → S A) (s : Sheet) → Wrote (bypass v k) (k (v w)) w s (entered (tag bypassNo (v w)) s)
+  pub wrote-bypass : (v : B → Bool) (k : Bool → Syn B A) (s : Sheet) → Wrote (bypass v k) (k (v w)) w s (entered (tag bypassNo (v w)) s)
   unfolding write
   wrote-bypass v k s = one-more (bypass v k) (k (v w)) (tag bypassNo (v w)) s refl
 
-  pub wrote-align : (t : S A) (s : Sheet) → Wrote (align t) t w s (entered alignTag s)
+  pub wrote-align : (t : Syn B A) (s : Sheet) → Wrote (align t) t w s (entered alignTag s)
   unfolding write
   wrote-align t s = one-more (align t) t alignTag s refl
 
   -- what stops has no list
-  pub wrote-stop : (n : ℕ) (u : S A) (s s′ : Sheet) → Wrote (stop n) u w s s′
+  pub wrote-stop : (n : ℕ) (u : Syn B A) (s s′ : Sheet) → Wrote (stop n) u w s s′
   unfolding write
   wrote-stop n u s s′ = record { leads = λ a l q. let z : _≡_ {A = ℕ} 0 1 = cc in absurd (omega arith) }
 
 -- a tree and then another
-then-spells : {A C : Type 0} (f : A → S C) (w : Wanted) (o : Written A) (c : C) (l : List ℕ) → thenWrite f w o ≡ Written.ok c l
+then-spells : {B A C : Type 0} (f : A → Syn B C) (w : B) (o : Written A) (c : C) (l : List ℕ) → thenWrite f w o ≡ Written.ok c l
     → (a : A) × (l₁ : List ℕ) × (m : List ℕ) × (o ≡ Written.ok a l₁) × (write (f a) w ≡ Written.ok c m) × (l ≡ l₁ ++ m)
 then-spells f w (Written.ok a l₁) c l q = let b = behind-spells l₁ (write (f a) w) c l q in (a, l₁, b .0, refl, b .1, b .2)
 then-spells f w (Written.no r) c l q = let z : _≡_ {A = ℕ} 0 1 = cc in absurd (omega arith)
 
-pub wrote-then : {A C : Type 0} (w : Wanted) (t : S A) (f : A → S C) (a : A) (s s′ : Sheet) → Wrote t (done a) w s s′ → Wrote (t >>= f) (f a) w s s′
+pub wrote-then : {B A C : Type 0} (w : B) (t : Syn B A) (f : A → Syn B C) (a : A) (s s′ : Sheet) → Wrote t (done a) w s s′ → Wrote (t >>= f) (f a) w s s′
 unfolding write enteredAll
 wrote-then w t f a s s′ h =
     record {
@@ -130,6 +129,6 @@ wrote-then w t f a s s′ h =
     }
 
 -- ---- from call to call: what is left of the whole behind one more of its trees
-pub wrote-call : {A C : Type 0} (w : Wanted) (whole : S C) (t : S A) (f : A → S C) (a : A) (s s′ s″ : Sheet) → Wrote whole (t >>= f) w s s′ → Wrote t (done a) w s′ s″
+pub wrote-call : {B A C : Type 0} (w : B) (whole : Syn B C) (t : Syn B A) (f : A → Syn B C) (a : A) (s s′ s″ : Sheet) → Wrote whole (t >>= f) w s s′ → Wrote t (done a) w s′ s″
     → Wrote whole (f a) w s s″
 wrote-call w whole t f a s s′ s″ g h = wrote-on w whole (t >>= f) (f a) s s′ s″ g (wrote-then w t f a s′ s″ h)

@@ -2,21 +2,21 @@
 use crate::room::Pen;
 use crate::shapes::put_bits;
 use crate::shapes::put_ones;
-use elements::remainder::escape_length;
-use elements::remainder::range_bits;
-use elements::remainder::whole_of;
-use residual::params::Params;
+use hevc_elements::remainder::escape_length;
+use hevc_elements::remainder::range_bits;
+use hevc_elements::remainder::whole_of;
+use hevc_residual::params::Params;
 ghost use mathlib.Core.Path.{_≡_};
 ghost use Prim.Native.Nat.{ℕ, _+_, _-_, _^_, _≤_, _<_};
 ghost use Rattle.bins.specs.Syn.{done};
-ghost use Rattle.residual.specs.Wanted.{Wanted};
-ghost use Rattle.residual.specs.Remainder.{log2TransformRange, egBase, egkS, limitedS, remainderS};
-ghost use Rattle.elements.specs.RemainderAgree.{escapeS};
+ghost use Rattle.hevc_residual.specs.Wanted.{Wanted};
+ghost use Rattle.hevc_residual.specs.Remainder.{log2TransformRange, egBase, egkS, limitedS, remainderS};
+ghost use Rattle.hevc_elements.specs.RemainderAgree.{escapeS};
 ghost use Rattle.pen.specs.Sheet.{sheet, Wrote};
 ghost use Rattle.pen.specs.RemainderLaws.{Prefixed};
 
 // How many ones an Exp-Golomb prefix of order k has for v, of at most so many.
-fn eg_count(k: u32, v: u32, most: u32) -> u32
+pub fn eg_count(k: u32, v: u32, most: u32) -> u32
     requires { ⌜ (k ≤ 22) × (most ≤ 31) ⌝ }
     ensures { λ r. ⌜ Prefixed k v most r ⌝ }
 {
@@ -31,7 +31,7 @@ fn eg_count(k: u32, v: u32, most: u32) -> u32
 }
 
 // What v exceeds that many ones by.
-fn eg_rest(n: u32, k: u32, v: u32) -> u32
+pub fn eg_rest(n: u32, k: u32, v: u32) -> u32
     requires { ⌜ (n ≤ 31) × (k ≤ 22) × (egBase k n ≤ v) ⌝ }
     ensures { λ r. ⌜ r ≡ v - egBase k n ⌝ }
 {

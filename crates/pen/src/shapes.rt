@@ -1,14 +1,14 @@
-// The shapes that syntax elements are made of: a number of bits, a flag that may not be coded, a prefix of ones.
+// The shapes by HEVC's wants: a number of bits, a flag that may not be coded, a prefix of ones.
+use crate::plain;
 use crate::room::Pen;
 use crate::room::put_bin;
-use crate::room::put_bypass;
 ghost use mathlib.Core.Path.{_≡_};
 ghost use mathlib.Core.Bool.{Bool, true, _&&_};
 ghost use Prim.Native.Nat.{ℕ, _+_, _^_, _≤_, _<_};
 ghost use Rattle.bins.specs.Syn.{done};
 ghost use Rattle.bins.specs.Readers.{flagIf, bitsS, onesS, prefixS};
 ghost use Rattle.bins.specs.Tags.{contextCount};
-ghost use Rattle.residual.specs.Wanted.{Wanted};
+ghost use Rattle.hevc_residual.specs.Wanted.{Wanted};
 ghost use Rattle.pen.specs.Sheet.{sheet, Wrote, Counts};
 
 // Several bypass bins, the highest bit first.
@@ -16,13 +16,7 @@ pub fn put_bits(room: &mut [u8], pen: Pen, n: u32, v: u32) -> Pen
     requires { ⌜ (n ≤ 32) × (v < 2 ^ n) ⌝ }
     ensures { λ r. ⌜ ((want : Wanted → ℕ) (w : Wanted) → want w ≡ v → Wrote (bitsS n 0 want) (done v) w (sheet (now (room .entry)) pen) (sheet (now (room .exit)) r)) ⌝ }
 {
-    let mut y = pen;
-    let mut k = n;
-    while 0 < k {
-        k -= 1;
-        y = put_bypass(room, y, (v >> k) % 2 == 1);
-    }
-    y
+    plain::put_bits(room, pen, n, v)
 }
 
 // A flag where it is coded.
@@ -58,14 +52,5 @@ pub fn put_ones(room: &mut [u8], pen: Pen, n: u32, most: u32) -> Pen
     requires { ⌜ n ≤ most ⌝ }
     ensures { λ r. ⌜ ((want : ℕ → Wanted → Bool) (w : Wanted) → Counts want w n most → Wrote (onesS most 0 want) (done n) w (sheet (now (room .entry)) pen) (sheet (now (room .exit)) r)) ⌝ }
 {
-    let mut y = pen;
-    let mut g: u32 = 0;
-    while g < n {
-        y = put_bypass(room, y, true);
-        g += 1;
-    }
-    if n < most {
-        return put_bypass(room, y, false);
-    }
-    y
+    plain::put_ones(room, pen, n, most)
 }

@@ -1,7 +1,8 @@
-// The block as a grid: a dot for 0; a level of more than half the greatest magnitude stands in brackets.
-use extents::greatest as greatest_of;
-use report::lines::part;
-use report::write;
+// The block as a grid with the numbers of rows and columns, and lines between its 4x4 sub-blocks: a dot for 0; a level of more than half the greatest magnitude
+// stands in brackets. What does not fit into 80 columns so goes without brackets, and in panels below one another where it must.
+use hevc_extents::greatest as greatest_of;
+use text::lines::part;
+use text::write;
 ghost use Prim.Native.Nat.{_≤_};
 
 fn digits(n: u32) -> usize
@@ -43,7 +44,7 @@ fn spaces(n: usize) {
     write::text(part(b"          ", 0, n));
 }
 
-// Right in a column of a width.
+// Right in a cell of a width.
 fn number(v: i32, width: usize) {
     let n = length(v);
     if n < width {
@@ -63,9 +64,36 @@ fn is_large(v: i32, greatest: u32) -> bool {
     greatest / 2 < magnitude(v)
 }
 
-fn cell(v: i32, greatest: u32) {
-    let width = digits(greatest) + 1;
-    if is_large(v, greatest) {
+// How cells are laid out: the width of one, and whether large levels stand in brackets, for which two of it are kept.
+struct Form {
+    width: usize,
+    brackets: bool,
+    greatest: u32,
+}
+
+fn bare(greatest: u32) -> Form {
+    Form {
+        width: digits(greatest) + 1,
+        brackets: false,
+        greatest,
+    }
+}
+
+fn bracketed(greatest: u32) -> Form {
+    Form {
+        width: digits(greatest) + 3,
+        brackets: true,
+        greatest,
+    }
+}
+
+fn cell(v: i32, f: Form) {
+    if !f.brackets {
+        number(v, f.width);
+        return;
+    }
+    let width = digits(f.greatest) + 1;
+    if is_large(v, f.greatest) {
         write::text(b"[");
         number(v, width);
         write::text(b"]");
@@ -77,7 +105,7 @@ fn cell(v: i32, greatest: u32) {
 }
 
 fn side(log2: u32) -> usize
-    ensures { λ r. ⌜ 1 ≤ r ⌝ }
+    ensures { λ r. ⌜ r ≤ 32 ⌝ }
 {
     match log2 {
         2 => 4,
@@ -87,27 +115,160 @@ fn side(log2: u32) -> usize
     }
 }
 
-fn area(log2: u32) -> usize
-    ensures { λ r. ⌜ r ≤ 1024 ⌝ }
+// How many columns fit into 80 characters, whole sub-blocks of them, beside 3 for the row's number and 1 for the line before each sub-block.
+fn columns_that_fit(width: usize) -> usize
+    ensures { λ r. ⌜ (1 ≤ r) × (r ≤ 32) ⌝ }
 {
-    match log2 {
-        2 => 16,
-        3 => 64,
-        4 => 256,
-        _ => 1024,
+    match width {
+        2 => 32,
+        3 => 20,
+        4 => 16,
+        5 => 12,
+        6 => 12,
+        7 => 8,
+        8 => 8,
+        9 => 8,
+        _ => 4,
     }
 }
 
-// Row by row.
-pub fn levels(block: &[i32; 1024], log2: u32, greatest: u32) {
+fn form_of(log2: u32, greatest: u32) -> Form {
+    let f = bracketed(greatest);
+    if columns_that_fit(f.width) < side(log2) {
+        return bare(greatest);
+    }
+    f
+}
+
+// The place of a row's first level.
+fn first_of(log2: u32, row: usize) -> usize
+    ensures { λ r. ⌜ r ≤ 992 ⌝ }
+{
+    if 31 < row {
+        return 0;
+    }
+    match log2 {
+        2 => 4 * row,
+        3 => 8 * row,
+        4 => 16 * row,
+        _ => 32 * row,
+    }
+}
+
+fn level(block: &[i32; 1024], first: usize, column: usize) -> i32
+    requires { ⌜ first ≤ 992 ⌝ }
+{
+    if 31 < column {
+        return 0;
+    }
+    block[first + column]
+}
+
+fn less(a: usize, b: usize) -> usize {
+    if b < a { a - b } else { 0 }
+}
+
+// A row's or a column's number, right in a width.
+fn label(n: usize, width: usize) {
+    if n < 10 {
+        spaces(less(width, 1));
+    } else {
+        spaces(less(width, 2));
+    }
+    write::count(n);
+}
+
+// A column's number; where cells are narrow, of each sub-block's first alone.
+fn head(column: usize, width: usize) {
+    if column % 4 == 0 {
+        write::text(b" ");
+        label(column, width);
+        return;
+    }
+    if width < 3 {
+        spaces(width);
+        return;
+    }
+    label(column, width);
+}
+
+fn heads(from: usize, to: usize, width: usize) {
+    let mut column = from;
+    while column < to {
+        head(column, width);
+        column += 1;
+    }
+    write::end_line();
+}
+
+// The line above a row of sub-blocks.
+fn rule(from: usize, to: usize, width: usize) {
+    spaces(3);
+    let mut column = from;
+    while column < to {
+        border(column, b"+");
+        write::text(part(b"-----------", 0, width));
+        column += 1;
+    }
+    write::end_line();
+}
+
+// Before a sub-block's first column.
+fn border(column: usize, mark: &[u8]) {
+    if column % 4 == 0 {
+        write::text(mark);
+    }
+}
+
+fn row_of(block: &[i32; 1024], log2: u32, row: usize, from: usize, to: usize, f: Form) {
+    label(row, 2);
+    write::text(b" ");
+    let first = first_of(log2, row);
+    let mut column = from;
+    while column < to {
+        border(column, b"|");
+        cell(level(block, first, column), f);
+        column += 1;
+    }
+    write::end_line();
+}
+
+// Before the columns' numbers, which stand above those of the cells: these end one place before a bracket.
+fn margin(f: Form) {
+    if f.brackets {
+        spaces(2);
+    } else {
+        spaces(3);
+    }
+}
+
+// All rows of some columns.
+fn panel(block: &[i32; 1024], log2: u32, from: usize, to: usize, f: Form) {
+    margin(f);
+    heads(from, to, f.width);
     let n = side(log2);
-    let end = area(log2);
-    let mut i: usize = 0;
-    while i < end {
-        cell(block[i], greatest);
-        i += 1;
-        if i % n == 0 {
-            write::end_line();
+    let mut row: usize = 0;
+    while row < n {
+        if row % 4 == 0 {
+            rule(from, to, f.width);
         }
+        row_of(block, log2, row, from, to, f);
+        row += 1;
+    }
+}
+
+fn least(a: usize, b: usize) -> usize {
+    if a < b { a } else { b }
+}
+
+// Panel by panel.
+pub fn levels(block: &[i32; 1024], log2: u32, greatest: u32) {
+    let f = form_of(log2, greatest);
+    let n = side(log2);
+    let step = columns_that_fit(f.width);
+    let mut from: usize = 0;
+    while from < n {
+        panel(block, log2, from, least(from + step, n), f);
+        from += step;
     }
 }

@@ -4,6 +4,7 @@
 // first; then an initial value for each context; then the payload of at most 4,096 bytes. Digits are lower case, two a byte, with nothing between them. Other
 // options are off, the statistics 0. What stands behind the frame is not looked at.
 mod grid; // grid.rt: the levels
+mod summary; // summary.rt: count, sum and map
 mod words; // words.rt: refusals and findings in words
 
 use bins::places::BitPlace;
@@ -12,15 +13,15 @@ use bins::tags::CONTEXTS;
 use cabac::contexts::init_contexts;
 use cabac::engine::State;
 use cabac::engine::start;
+use hevc_reader::block::Found;
+use hevc_reader::entries::Read;
+use hevc_reader::entries::residual_coding;
+use hevc_residual::params::Params;
 use libc::STDIN_FILENO;
-use reader::block::Found;
-use reader::entries::Read;
-use reader::entries::residual_coding;
-use report::fields::Octets;
-use report::fields::hex_bytes;
-use report::lines::part;
-use report::write;
-use residual::params::Params;
+use text::fields::Octets;
+use text::fields::hex_bytes;
+use text::lines::part;
+use text::write;
 ghost use Prim.Native.Nat.{_≤_};
 
 const MOST: usize = 4096;
@@ -115,6 +116,7 @@ fn shown(found: Found, e: Engine, payload: &[u8], p: Params, block: &[i32; 1024]
     words::size(p.log2, p.luma);
     words::found(found);
     words::drawn(e, payload.len());
+    summary::of(block, p.log2);
     grid::levels(block, p.log2, found.greatest);
 }
 

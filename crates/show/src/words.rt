@@ -1,8 +1,8 @@
 // Refusals and findings in words.
 use bins::state::Engine;
-use reader::block::Found;
-use report::write;
-use residual::params::Rdpcm;
+use hevc_reader::block::Found;
+use hevc_residual::params::Rdpcm;
+use text::write;
 
 fn reason(n: u32) {
     match n {
@@ -14,6 +14,11 @@ fn reason(n: u32) {
         6 => write::text(b"engine has ended"),
         7 => write::text(b"alignment wanted while the offset is 256 or more"),
         8 => write::text(b"level outside the coefficient range"),
+        9 => write::text(b"writer: all levels zero"),
+        10 => write::text(b"writer: skip or RDPCM set where it isn't coded"),
+        11 => write::text(b"writer: a hidden sign disagrees with its parity"),
+        12 => write::text(b"writer: list longer than the room"),
+        13 => write::text(b"bin reader: list ends early, has another tag, or has bins left over"),
         _ => write::text(b"another reason"),
     }
 }

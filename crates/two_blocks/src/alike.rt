@@ -2,9 +2,9 @@
 use bins::state::Engine;
 use bins::tags::CONTEXTS;
 use check::same;
-use reader::block::Found;
-use reader::entries::Read;
-use residual::params::Rdpcm;
+use hevc_reader::block::Found;
+use hevc_reader::entries::Read;
+use hevc_residual::params::Rdpcm;
 
 fn code(r: Rdpcm) -> u32 {
     match r {

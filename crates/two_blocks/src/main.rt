@@ -10,11 +10,11 @@ use bins::state::Engine;
 use bins::tags::CONTEXTS;
 use cabac::engine::State;
 use cabac::engine::start;
-use decoder::held::block_through;
-use reader::entries::Read;
-use reader::entries::residual_coding;
-use report::write;
-use residual::params::Params;
+use hevc_decoder::decoder::block_through;
+use hevc_reader::entries::Read;
+use hevc_reader::entries::residual_coding;
+use hevc_residual::params::Params;
+use text::write;
 
 // 8x8 luma, scan 0, all options off.
 fn params() -> Params {

@@ -1,6 +1,6 @@
 -- `bin` meets its contract. Assumes nothing.
 use native.Mathlib.Omega.{arith}
-use Rattle.bins.specs.StepLaws.{entry-zero, entry-one, entry-other, entry-none}
+use Rattle.bins.specs.StepLaws.{entry-half, entry-other, entry-none}
 use borrow.Author.Needs.{needs}
 use Rattle.bins.proofs.list.bin.Statement.{statement}
 use Rattle.bins.proofs.list.bin.Tie as tie
@@ -14,32 +14,23 @@ add-if1 c = search needs
 tag-at-requires : tie.Need-tag-at-requires
 tag-at-requires c κs = search needs
 
-mul-if2 : tie.Need-mul-if2
-mul-if2 c = search needs
-
 next-entry-requires : tie.Need-next-entry-requires
 next-entry-requires c κs = search needs
 
 returns : tie.Need-returns
-returns c = let a = c .before .before .before .before .before .before .before .args in entry-zero (a .bytes .now) (a .x) _ (c .before .before .before .before .entry-at .ensures) (a .number) _ _ (c .before .before .before .if1 .taken) (c .before .before .tag-at .ensures) (c .before .if2 .taken) (c .next-entry .ensures)
-
-mul-if3 : tie.Need-mul-if3
-mul-if3 c = search needs
-
-add-if3 : tie.Need-add-if3
-add-if3 c = search needs
-
-next-entry-requires-2 : tie.Need-next-entry-requires-2
-next-entry-requires-2 c κs = search needs
+returns c =
+    let a = c .before .before .before .before .before .before .before .args in
+    entry-half (a .bytes .now) (a .x) _ (c .before .before .before .before .entry-at .ensures) (a .number) _ _ (c .before .before .before .if1 .taken) (c .before .before .tag-at .ensures) (c .before .if2 .taken) (c .next-entry .ensures)
 
 returns-2 : tie.Need-returns-2
-returns-2 c = let a = c .before .before .before .before .before .before .before .before .args in entry-one (a .bytes .now) (a .x) _ (c .before .before .before .before .before .entry-at .ensures) (a .number) _ _ (c .before .before .before .before .if1 .taken) (c .before .before .before .tag-at .ensures) (c .before .if3 .taken) (c .next-entry2 .ensures)
+returns-2 c =
+    let a = c .before .before .before .before .before .before .args in
+    entry-other (a .bytes .now) (a .x) _ (c .before .before .before .entry-at .ensures) (a .number) _ (c .before .before .if1 .taken) (c .before .tag-at .ensures) (c .if2 .left)
 
 returns-3 : tie.Need-returns-3
-returns-3 c = let a = c .before .before .before .before .before .before .before .args in entry-other (a .bytes .now) (a .x) _ (c .before .before .before .before .entry-at .ensures) (a .number) _ (c .before .before .before .if1 .taken) (c .before .before .tag-at .ensures) (c .before .if2 .left) (c .if3 .left)
-
-returns-4 : tie.Need-returns-4
-returns-4 c = let a = c .before .before .before .before .args in entry-none (a .bytes .now) (a .x) _ (c .before .entry-at .ensures) (a .number) (c .if1 .left)
+returns-3 c =
+    let a = c .before .before .before .before .args in
+    entry-none (a .bytes .now) (a .x) _ (c .before .entry-at .ensures) (a .number) (c .if1 .left)
 
 pub bin-spec : {M : Type 1} → statement M
 bin-spec =
@@ -48,12 +39,7 @@ bin-spec =
     entry-at-requires
     add-if1
     tag-at-requires
-    mul-if2
     next-entry-requires
     returns
-    mul-if3
-    add-if3
-    next-entry-requires-2
     returns-2
-    returns-3
-    returns-4)
+    returns-3)

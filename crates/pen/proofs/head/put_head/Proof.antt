@@ -3,16 +3,16 @@ use native.Mathlib.Omega.{arith}
 use mathlib.Core.Path.{refl, sym, ap, subst, _∙_}
 use Prim.Native.Nat.{_+_, _^_, _<_}
 use borrow.Author.Needs.{needs}
-use Rattle.elements.specs.HeadLaws.{chroma-few}
+use Rattle.hevc_elements.specs.HeadLaws.{chroma-few}
 use Rattle.pen.specs.HeadLaws.{swapped-below, position-small, flag-as, prefix-as, suffix-as, head-written}
 use borrow.Author.Needs.{needs}
 use Rattle.pen.proofs.head.put_head.Statement.{statement}
 use Rattle.pen.proofs.head.put_head.Tie as tie
 use Rattle.pen.proofs.head.put_head.Reads as reads
 use Rattle.pen.proofs.head.put_head.Lts as lts
-use Rattle.elements.proofs.head.in_chroma.Reads as in-chroma-reads
-use Rattle.elements.proofs.head.rdpcm_coded.Reads as rdpcm-coded-reads
-use Rattle.elements.proofs.head.skip_coded.Reads as skip-coded-reads
+use Rattle.hevc_elements.proofs.head.in_chroma.Reads as in-chroma-reads
+use Rattle.hevc_elements.proofs.head.rdpcm_coded.Reads as rdpcm-coded-reads
+use Rattle.hevc_elements.proofs.head.skip_coded.Reads as skip-coded-reads
 use Rattle.pen.proofs.head.first_of.Reads as first-of-reads
 use Rattle.pen.proofs.head.is_explicit.Reads as is-explicit-reads
 use Rattle.pen.proofs.head.is_vertical.Reads as is-vertical-reads

@@ -2,7 +2,7 @@
 use native.Mathlib.Omega.{arith}
 use mathlib.Core.Path.{refl, sym, ap, subst, _∙_}
 use Prim.Native.Nat.{_-_, _^_, _≤_, _<_}
-use Rattle.residual.specs.Head.{leastOf, suffixBits}
+use Rattle.hevc_residual.specs.Head.{leastOf, suffixBits}
 use Rattle.pen.specs.RemainderLaws.{bits-as}
 use Rattle.pen.specs.HeadLaws.{groupOf, group-small, group-least, group-suffix, suffix-small}
 use borrow.Author.Needs.{needs}
@@ -10,8 +10,8 @@ use Rattle.pen.proofs.head.put_last_suffix.Statement.{statement}
 use Rattle.pen.proofs.head.put_last_suffix.Tie as tie
 use Rattle.pen.proofs.head.put_last_suffix.Reads as reads
 use Rattle.pen.proofs.head.put_last_suffix.Lts as lts
-use Rattle.elements.proofs.head.least.Reads as least-reads
-use Rattle.elements.proofs.head.suffix_bits.Reads as suffix-bits-reads
+use Rattle.hevc_elements.proofs.head.least.Reads as least-reads
+use Rattle.hevc_elements.proofs.head.suffix_bits.Reads as suffix-bits-reads
 use Rattle.pen.proofs.head.group_of.Reads as group-of-reads
 use Rattle.pen.proofs.shapes.put_bits.Reads as put-bits-reads
 

@@ -2,14 +2,14 @@
 use native.Mathlib.Omega.{arith}
 use mathlib.Core.Path.{refl, sym, ap, subst, _∙_}
 use Prim.Native.Nat.{_^_, _≤_, _<_}
-use Rattle.elements.specs.RemainderLaws.{range-within}
+use Rattle.hevc_elements.specs.RemainderLaws.{range-within}
 use Rattle.pen.specs.RemainderLaws.{value-small, escape-limited, escape-plain}
 use borrow.Author.Needs.{needs}
 use Rattle.pen.proofs.remainder.put_escape.Statement.{statement}
 use Rattle.pen.proofs.remainder.put_escape.Tie as tie
 use Rattle.pen.proofs.remainder.put_escape.Reads as reads
 use Rattle.pen.proofs.remainder.put_escape.Lts as lts
-use Rattle.elements.proofs.remainder.range_bits.Reads as range-bits-reads
+use Rattle.hevc_elements.proofs.remainder.range_bits.Reads as range-bits-reads
 use Rattle.pen.proofs.remainder.put_exp_golomb.Reads as put-exp-golomb-reads
 use Rattle.pen.proofs.remainder.put_limited.Reads as put-limited-reads
 

@@ -2,14 +2,14 @@
 use native.Mathlib.Omega.{arith}
 use mathlib.Core.Path.{refl, sym, ap, subst, _∙_}
 use Prim.Native.Nat.{_+_, _-_, _^_, _≤_, _<_}
-use Rattle.residual.specs.Remainder.{egBase}
+use Rattle.hevc_residual.specs.Remainder.{egBase}
 use Rattle.pen.specs.RemainderLaws.{Prefixed, base-reached, limited-fits, limited-written, bits-as}
 use borrow.Author.Needs.{needs}
 use Rattle.pen.proofs.remainder.put_limited.Statement.{statement}
 use Rattle.pen.proofs.remainder.put_limited.Tie as tie
 use Rattle.pen.proofs.remainder.put_limited.Reads as reads
 use Rattle.pen.proofs.remainder.put_limited.Lts as lts
-use Rattle.elements.proofs.remainder.escape_length.Reads as escape-length-reads
+use Rattle.hevc_elements.proofs.remainder.escape_length.Reads as escape-length-reads
 use Rattle.pen.proofs.remainder.eg_count.Reads as eg-count-reads
 use Rattle.pen.proofs.remainder.eg_rest.Reads as eg-rest-reads
 use Rattle.pen.proofs.shapes.put_bits.Reads as put-bits-reads

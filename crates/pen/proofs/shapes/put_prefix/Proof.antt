@@ -5,10 +5,11 @@ use lib.Pow.{shr-le}
 use Prim.Native.Nat.{_+_, _-_}
 use borrow.Author.Needs.{needs}
 use Rattle.bins.specs.Syn.{done}
-use Rattle.bins.specs.Readers.{onesS, prefixS}
-use Rattle.elements.specs.ShapeLaws.{ones-counter, prefix-counter}
+use Rattle.bins.specs.Readers.{prefixS}
+use Rattle.hevc_residual.specs.Wanted.{Wanted}
+use Rattle.trees.specs.Counters.{prefix-counter}
 use Rattle.pen.specs.Sheet.{sheet, Wrote}
-use Rattle.pen.specs.ShapeLaws.{ones-putter, prefix-putter, Ones, ones-begin, ones-more, ones-zero, ones-most}
+use Rattle.pen.specs.ShapeLaws.{prefix-putter, Ones, ones-begin, ones-more, ones-zero, ones-most}
 use Rattle.pen.proofs.shapes.put_prefix.Statement.{statement}
 use Rattle.pen.proofs.shapes.put_prefix.Tie as tie
 use Rattle.pen.proofs.shapes.put_prefix.Reads as reads
@@ -16,13 +17,13 @@ use Rattle.pen.proofs.shapes.put_prefix.Lts as lts
 use Rattle.pen.proofs.room.put_bin.Reads as put-bin-reads
 
 abbrev Inv-loop : tie.InvT-loop
-Inv-loop room₀ base shift n most y₀ g₀ room y g = Ones (prefix-counter base shift) (prefix-putter base shift) n most (sheet room₀ y₀) g (sheet room y)
+Inv-loop room₀ base shift n most y₀ g₀ room y g = Ones (prefix-counter {B = Wanted} base shift) (prefix-putter base shift) n most (sheet room₀ y₀) g (sheet room y)
 
 abbrev μ-loop : tie.MeasureT-loop
 μ-loop room₀ base shift n most y₀ g₀ room y g = n - g
 
 loop-holds : tie.Need-loop-holds Inv-loop μ-loop
-loop-holds c = let a = c .before .args in ones-begin (prefix-counter (a .base) (a .shift)) (prefix-putter (a .base) (a .shift)) (a .n) (a .most) (sheet (a .room .now) (a .pen)) (c .before .pre .1)
+loop-holds c = let a = c .before .args in ones-begin (prefix-counter {B = Wanted} (a .base) (a .shift)) (prefix-putter (a .base) (a .shift)) (a .n) (a .most) (sheet (a .room .now) (a .pen)) (c .before .pre .1)
 
 shr-put-bin : tie.Need-shr-put-bin Inv-loop μ-loop
 shr-put-bin c = omega (arith, c .before .before .before .before .pre .3)
@@ -43,7 +44,7 @@ loop-less : tie.Need-loop-less Inv-loop μ-loop
 loop-less c = omega arith
 
 loop-again : tie.Need-loop-again Inv-loop μ-loop
-loop-again c = let a = c .before .before .before .before .before .before .before .args in let t = c .before .before .before .before .before .loop in subst (Ones (prefix-counter (a .base) (a .shift)) (prefix-putter (a .base) (a .shift)) (a .n) (a .most) (sheet (a .room .now) (a .pen)) (t .g + 1)) (sym (c .before .before .put-bin .ensures)) (ones-more (prefix-counter (a .base) (a .shift)) (prefix-putter (a .base) (a .shift)) (a .n) (a .most) (sheet (a .room .now) (a .pen)) (t .g) (sheet (t .room) (t .y)) (t .inv) (c .before .before .before .before .loop-test .taken))
+loop-again c = let a = c .before .before .before .before .before .before .before .args in let t = c .before .before .before .before .before .loop in subst (Ones (prefix-counter {B = Wanted} (a .base) (a .shift)) (prefix-putter (a .base) (a .shift)) (a .n) (a .most) (sheet (a .room .now) (a .pen)) (t .g + 1)) (sym (c .before .before .put-bin .ensures)) (ones-more (prefix-counter {B = Wanted} (a .base) (a .shift)) (prefix-putter (a .base) (a .shift)) (a .n) (a .most) (sheet (a .room .now) (a .pen)) (t .g) (sheet (t .room) (t .y)) (t .inv) (c .before .before .before .before .loop-test .taken))
 
 shr-put-bin-2 : tie.Need-shr-put-bin-2 Inv-loop μ-loop
 shr-put-bin-2 c = omega (arith, c .before .before .before .before .before .pre .3)
@@ -61,13 +62,13 @@ same-length : tie.Need-same-length Inv-loop μ-loop
 same-length c = search needs
 
 returns : tie.Need-returns Inv-loop μ-loop
-returns c = λ want w q. let a = c .before .before .before .before .before .before .before .before .args in let t = c .before .before .before .before .before .before .loop in subst (Wrote (prefixS (a .base) (a .shift) (a .most) 0 want) (done (a .n)) w (sheet (a .room .now) (a .pen))) (sym (c .before .before .put-bin2 .ensures)) (ones-zero (prefix-counter (a .base) (a .shift)) (prefix-putter (a .base) (a .shift)) (a .n) (a .most) (sheet (a .room .now) (a .pen)) (t .g) (sheet (t .room) (t .y)) (t .inv) (c .before .before .before .before .before .loop-test .left) (c .before .before .before .before .if1 .taken) want w q)
+returns c = λ want w q. let a = c .before .before .before .before .before .before .before .before .args in let t = c .before .before .before .before .before .before .loop in subst (Wrote (prefixS (a .base) (a .shift) (a .most) 0 want) (done (a .n)) w (sheet (a .room .now) (a .pen))) (sym (c .before .before .put-bin2 .ensures)) (ones-zero (prefix-counter {B = Wanted} (a .base) (a .shift)) (prefix-putter (a .base) (a .shift)) (a .n) (a .most) (sheet (a .room .now) (a .pen)) (t .g) (sheet (t .room) (t .y)) (t .inv) (c .before .before .before .before .before .loop-test .left) (c .before .before .before .before .if1 .taken) want w q)
 
 same-length-2 : tie.Need-same-length-2 Inv-loop μ-loop
 same-length-2 c = c .before .before .loop .inv .long
 
 returns-2 : tie.Need-returns-2 Inv-loop μ-loop
-returns-2 c = let a = c .before .before .before .before .args in let t = c .before .before .loop in ones-most (prefix-counter (a .base) (a .shift)) (prefix-putter (a .base) (a .shift)) (a .n) (a .most) (sheet (a .room .now) (a .pen)) (t .g) (sheet (t .room) (t .y)) (t .inv) (c .before .loop-test .left) (c .if1 .left)
+returns-2 c = let a = c .before .before .before .before .args in let t = c .before .before .loop in ones-most (prefix-counter {B = Wanted} (a .base) (a .shift)) (prefix-putter (a .base) (a .shift)) (a .n) (a .most) (sheet (a .room .now) (a .pen)) (t .g) (sheet (t .room) (t .y)) (t .inv) (c .before .loop-test .left) (c .if1 .left)
 
 pub put-prefix-spec : {M : Type 1} → statement M
 put-prefix-spec =

@@ -5,49 +5,40 @@ use Rattle.show.proofs.grid.levels.Statement.{statement}
 use Rattle.show.proofs.grid.levels.Tie as tie
 
 abbrev Inv-loop : tie.InvT-loop
-Inv-loop block log2 greatest n end i₀ i = (i ≤ end) × (end ≤ 1024) × (1 ≤ n)
+Inv-loop block log2 greatest f n step from₀ from = (n ≤ 32) × (1 ≤ step) × (step ≤ 32)
 
 abbrev μ-loop : tie.MeasureT-loop
-μ-loop block log2 greatest n end i₀ i = end - i
+μ-loop block log2 greatest f n step from₀ from = n - from
+
+form-of-requires : tie.Need-form-of-requires Inv-loop μ-loop
+form-of-requires c κs = search needs
 
 side-requires : tie.Need-side-requires Inv-loop μ-loop
 side-requires c κs = search needs
 
-area-requires : tie.Need-area-requires Inv-loop μ-loop
-area-requires c κs = search needs
+columns-that-fit-requires : tie.Need-columns-that-fit-requires Inv-loop μ-loop
+columns-that-fit-requires c κs = search needs
 
 loop-holds : tie.Need-loop-holds Inv-loop μ-loop
 loop-holds c = search needs
 
-mul-cell : tie.Need-mul-cell Inv-loop μ-loop
-mul-cell c = search needs
+add-least : tie.Need-add-least Inv-loop μ-loop
+add-least c = search needs
 
-element-copy-out-cell : tie.Need-element-copy-out-cell Inv-loop μ-loop
-element-copy-out-cell c = search needs
+least-requires : tie.Need-least-requires Inv-loop μ-loop
+least-requires c κs = search needs
 
-cell-requires : tie.Need-cell-requires Inv-loop μ-loop
-cell-requires c κs = search needs
+panel-requires : tie.Need-panel-requires Inv-loop μ-loop
+panel-requires c κs = search needs
 
-add-i : tie.Need-add-i Inv-loop μ-loop
-add-i c = search needs
-
-rem-if1 : tie.Need-rem-if1 Inv-loop μ-loop
-rem-if1 c = search needs
-
-end-line-requires : tie.Need-end-line-requires Inv-loop μ-loop
-end-line-requires c κs = search needs
+add-from : tie.Need-add-from Inv-loop μ-loop
+add-from c = search needs
 
 loop-less : tie.Need-loop-less Inv-loop μ-loop
 loop-less c = search needs
 
 loop-again : tie.Need-loop-again Inv-loop μ-loop
 loop-again c = search needs
-
-loop-less-2 : tie.Need-loop-less-2 Inv-loop μ-loop
-loop-less-2 c = search needs
-
-loop-again-2 : tie.Need-loop-again-2 Inv-loop μ-loop
-loop-again-2 c = search needs
 
 returns : tie.Need-returns Inv-loop μ-loop
 returns c = search needs
@@ -58,17 +49,14 @@ levels-spec =
     (tie.spec
     Inv-loop
     μ-loop
+    form-of-requires
     side-requires
-    area-requires
+    columns-that-fit-requires
     loop-holds
-    mul-cell
-    element-copy-out-cell
-    cell-requires
-    add-i
-    rem-if1
-    end-line-requires
+    add-least
+    least-requires
+    panel-requires
+    add-from
     loop-less
     loop-again
-    loop-less-2
-    loop-again-2
     returns)

@@ -1,0 +1,256 @@
+// The arithmetic engine. Each answer holds document 01's number; after a refusal its state is the one handed in.
+use bulmegart::records::EngineState;
+use bulmegart::records::engine_of;
+use bulmegart::records::flag_byte;
+use bulmegart::records::state_handed;
+use bulmegart::records::state_of;
+use cabac::engine::Bins;
+use cabac::engine::Decision;
+use cabac::engine::State;
+use cabac::engine::align_bypass;
+use cabac::engine::byte_align;
+use cabac::engine::decode_bin;
+use cabac::engine::decode_bypass;
+use cabac::engine::decode_bypass_bits;
+use cabac::engine::decode_terminate;
+use cabac::engine::read_bits;
+use cabac::engine::rest;
+use cabac::engine::restart;
+use cabac::engine::start;
+ghost use mathlib.Core.Path.{_≡_};
+ghost use Rattle.cabac.specs.Entries.{stateSays, decisionSays, binsSay};
+ghost use Rattle.cabac.specs.Entries as entries;
+ghost use Rattle.bulmegart.specs.Records.{engineOf, noState};
+ghost use Rattle.bulmegart_engine.specs.Exported.{stateGiven, stateNo, decisionGiven, binsGiven, restGiven};
+ghost use Rattle.bulmegart.specs.Records.{behindState};
+
+#[repr(C)]
+pub struct StateAnswer {
+    pub number: u32,
+    pub state: EngineState,
+}
+
+#[repr(C)]
+pub struct DecisionAnswer {
+    pub number: u32,
+    pub bin: u8,
+    pub context: u8,
+    pub state: EngineState,
+}
+
+#[repr(C)]
+pub struct BinsAnswer {
+    pub number: u32,
+    pub value: u32,
+    pub state: EngineState,
+}
+
+// The rest of the payload: its first byte's place, and its length.
+#[repr(C)]
+pub struct RestAnswer {
+    pub number: u32,
+    pub first: usize,
+    pub length: usize,
+}
+
+fn state_answer(r: State, s: EngineState) -> StateAnswer
+    ensures { λ a. ⌜ a ≡ stateGiven s (stateSays r) ⌝ }
+{
+    match r {
+        State::Ready(e) => StateAnswer {
+            number: 0,
+            state: state_of(e),
+        },
+        State::Refused(n) => StateAnswer {
+            number: n,
+            state: s,
+        },
+    }
+}
+
+fn decision_answer(r: Decision, context: u8, s: EngineState) -> DecisionAnswer
+    ensures { λ a. ⌜ a ≡ decisionGiven context s (decisionSays r) ⌝ }
+{
+    match r {
+        Decision::Bin(bin, next, e) => DecisionAnswer {
+            number: 0,
+            bin: flag_byte(bin),
+            context: next,
+            state: state_of(e),
+        },
+        Decision::Refused(n) => DecisionAnswer {
+            number: n,
+            bin: 0,
+            context,
+            state: s,
+        },
+    }
+}
+
+fn bins_answer(r: Bins, s: EngineState) -> BinsAnswer
+    ensures { λ a. ⌜ a ≡ binsGiven s (binsSay r) ⌝ }
+{
+    match r {
+        Bins::Read(value, e) => BinsAnswer {
+            number: 0,
+            value,
+            state: state_of(e),
+        },
+        Bins::Refused(n) => BinsAnswer {
+            number: n,
+            value: 0,
+            state: s,
+        },
+    }
+}
+
+fn state_number(r: State) -> u32
+    ensures { λ n. ⌜ n ≡ stateNo r ⌝ }
+{
+    match r {
+        State::Ready(_) => 0,
+        State::Refused(n) => n,
+    }
+}
+
+// A state of zeros, which every other call answers by 3.
+fn no_state() -> EngineState
+    ensures { λ r. ⌜ r ≡ noState ⌝ }
+{
+    EngineState {
+        range: 0,
+        offset: 0,
+        position: 0,
+        ended: 0,
+        past: 0,
+    }
+}
+
+#[no_mangle]
+pub extern "C" fn bulmegart_start(payload: &[u8]) -> StateAnswer
+    ensures { λ r. ⌜ r ≡ stateGiven noState (entries.start (now (payload .entry))) ⌝ }
+{
+    state_answer(start(payload), no_state())
+}
+
+#[no_mangle]
+pub extern "C" fn bulmegart_decode_bin(
+    payload: &[u8],
+    state: EngineState,
+    context: u8,
+) -> DecisionAnswer
+    ensures { λ r. ⌜ r ≡ decisionGiven context state (behindState (now (payload .entry)) state (entries.decision (now (payload .entry)) (engineOf state) context)) ⌝ }
+{
+    let n = state_handed(payload, state);
+    if n != 0 {
+        return decision_answer(Decision::Refused(n), context, state);
+    }
+    decision_answer(
+        decode_bin(payload, engine_of(state), context),
+        context,
+        state,
+    )
+}
+
+#[no_mangle]
+pub extern "C" fn bulmegart_decode_bypass(payload: &[u8], state: EngineState) -> BinsAnswer
+    ensures { λ r. ⌜ r ≡ binsGiven state (behindState (now (payload .entry)) state (entries.bypassBits (now (payload .entry)) (engineOf state) 1)) ⌝ }
+{
+    let n = state_handed(payload, state);
+    if n != 0 {
+        return bins_answer(Bins::Refused(n), state);
+    }
+    bins_answer(decode_bypass(payload, engine_of(state)), state)
+}
+
+#[no_mangle]
+pub extern "C" fn bulmegart_decode_bypass_bits(
+    payload: &[u8],
+    state: EngineState,
+    count: u32,
+) -> BinsAnswer
+    ensures { λ r. ⌜ r ≡ binsGiven state (behindState (now (payload .entry)) state (entries.bypassBits (now (payload .entry)) (engineOf state) count)) ⌝ }
+{
+    let n = state_handed(payload, state);
+    if n != 0 {
+        return bins_answer(Bins::Refused(n), state);
+    }
+    bins_answer(decode_bypass_bits(payload, engine_of(state), count), state)
+}
+
+#[no_mangle]
+pub extern "C" fn bulmegart_decode_terminate(payload: &[u8], state: EngineState) -> BinsAnswer
+    ensures { λ r. ⌜ r ≡ binsGiven state (behindState (now (payload .entry)) state (entries.terminate (now (payload .entry)) (engineOf state))) ⌝ }
+{
+    let n = state_handed(payload, state);
+    if n != 0 {
+        return bins_answer(Bins::Refused(n), state);
+    }
+    bins_answer(decode_terminate(payload, engine_of(state)), state)
+}
+
+#[no_mangle]
+pub extern "C" fn bulmegart_align_bypass(payload: &[u8], state: EngineState) -> StateAnswer
+    ensures { λ r. ⌜ r ≡ stateGiven state (behindState (now (payload .entry)) state (entries.alignBypass (now (payload .entry)) (engineOf state))) ⌝ }
+{
+    let n = state_handed(payload, state);
+    if n != 0 {
+        return state_answer(State::Refused(n), state);
+    }
+    state_answer(align_bypass(payload, engine_of(state)), state)
+}
+
+#[no_mangle]
+pub extern "C" fn bulmegart_byte_align(payload: &[u8], state: EngineState) -> StateAnswer
+    ensures { λ r. ⌜ r ≡ stateGiven state (behindState (now (payload .entry)) state (entries.byteAlign (now (payload .entry)) (engineOf state))) ⌝ }
+{
+    let n = state_handed(payload, state);
+    if n != 0 {
+        return state_answer(State::Refused(n), state);
+    }
+    state_answer(byte_align(payload, engine_of(state)), state)
+}
+
+#[no_mangle]
+pub extern "C" fn bulmegart_restart(payload: &[u8], state: EngineState) -> StateAnswer
+    ensures { λ r. ⌜ r ≡ stateGiven state (behindState (now (payload .entry)) state (entries.restart (now (payload .entry)) (engineOf state))) ⌝ }
+{
+    let n = state_handed(payload, state);
+    if n != 0 {
+        return state_answer(State::Refused(n), state);
+    }
+    state_answer(restart(payload, engine_of(state)), state)
+}
+
+#[no_mangle]
+pub extern "C" fn bulmegart_read_bits(payload: &[u8], state: EngineState, count: u32) -> BinsAnswer
+    ensures { λ r. ⌜ r ≡ binsGiven state (behindState (now (payload .entry)) state (entries.raw (now (payload .entry)) (engineOf state) count)) ⌝ }
+{
+    let n = state_handed(payload, state);
+    if n != 0 {
+        return bins_answer(Bins::Refused(n), state);
+    }
+    bins_answer(read_bits(payload, engine_of(state), count), state)
+}
+
+// The rest of the payload behind byte alignment, as its first byte's place and its length.
+#[no_mangle]
+pub extern "C" fn bulmegart_rest(payload: &[u8], state: EngineState) -> RestAnswer
+    ensures { λ r. ⌜ r ≡ restGiven (now (payload .entry)) state ⌝ }
+{
+    let n = state_handed(payload, state);
+    if n != 0 {
+        return RestAnswer {
+            number: n,
+            first: payload.len(),
+            length: 0,
+        };
+    }
+    let e = engine_of(state);
+    let length = rest(payload, e).len();
+    RestAnswer {
+        number: state_number(byte_align(payload, e)),
+        first: payload.len() - length,
+        length,
+    }
+}

@@ -1,0 +1,222 @@
+// Records of the two block readers.
+//
+//     block payload [state p ctx stats places] => answer skip rdpcm column row greatest levels state changes stats
+//     list list or list1 [p stats places] => answer skip rdpcm column row greatest levels stats
+//
+// At a refusal: answer memory. A list that is accepted must be the one that the bin writer makes of its block.
+use crate::answer;
+use crate::answer::NONE;
+use crate::answer::same_contexts;
+use crate::answer::same_statistics;
+use crate::engine;
+use crate::given;
+use crate::given::Chosen;
+use crate::given::PLACES;
+use crate::record::value;
+use crate::writes::is_list_of;
+use bins::state::Engine;
+use bins::tags::CONTEXTS;
+use hevc_reader::block::Found;
+use hevc_reader::entries::Read;
+use hevc_reader::entries::ReadList;
+use hevc_reader::entries::read_bins;
+use hevc_reader::entries::residual_coding;
+use hevc_residual::params::Params;
+use hevc_residual::params::Rdpcm;
+
+// What each place holds before the call; no level has it.
+const MARK: i32 = 1431655765;
+
+// n·n of an accepted size; no other block is written to.
+fn area(log2: u32) -> usize {
+    match log2 {
+        2 => 16,
+        3 => 64,
+        4 => 256,
+        5 => 1024,
+        _ => 0,
+    }
+}
+
+// Whether a place before the end holds something else than the value; behind the end than the mark.
+fn is_other(place: usize, end: usize, held: i32, value: i32) -> bool {
+    if place < end {
+        return held != value;
+    }
+    held != MARK
+}
+
+// Whether every place before the end holds the value, and every place behind it what it held.
+fn holds(block: &[i32; PLACES], end: usize, value: i32) -> bool {
+    let mut i: usize = 0;
+    while i < PLACES {
+        if is_other(i, end, block[i], value) {
+            return false;
+        }
+        i += 1;
+    }
+    true
+}
+
+fn level(s: &[u8], at: usize, first: bool, n: usize, value: i32) -> usize {
+    answer::signed(s, answer::place(s, at, first, n), value)
+}
+
+// The levels of the block that are not 0, and those behind it that were changed.
+fn levels(s: &[u8], at: usize, block: &[i32; PLACES], end: usize) -> usize {
+    let mut to = at;
+    let mut none = true;
+    let mut i: usize = 0;
+    while i < PLACES {
+        if is_other(i, end, block[i], 0) {
+            to = level(s, to, none, i, block[i]);
+            none = false;
+        }
+        i += 1;
+    }
+    answer::unless(s, to, !none, b"-")
+}
+
+fn rdpcm(r: Rdpcm) -> u32 {
+    match r {
+        Rdpcm::None => 2,
+        Rdpcm::Horizontal => 0,
+        Rdpcm::Vertical => 1,
+    }
+}
+
+fn found(s: &[u8], at: usize, f: Found, block: &[i32; PLACES], end: usize) -> usize {
+    let choice = f.rdpcm;
+    let direction = rdpcm(choice);
+    let n = [
+        f.skip as u64,
+        direction as u64,
+        f.column as u64,
+        f.row as u64,
+        f.greatest as u64,
+        0,
+        0,
+        0,
+    ];
+    let head = answer::form(s, at, b"answer=0 skip=$0 rdpcm=", &n);
+    let sign = if direction == 2 {
+        answer::text(s, head, b"-1")
+    } else {
+        answer::decimal(s, head, direction as u64)
+    };
+    let to = answer::form(s, sign, b" column=$2 row=$3 greatest=$4 levels=", &n);
+    levels(s, to, block, end)
+}
+
+// What a refusal left of the places that were lent.
+fn refused(s: &[u8], at: usize, n: u32, block: &[i32; PLACES], end: usize) -> usize {
+    let to = answer::refusal(s, at, n);
+    if holds(block, end, MARK) {
+        return answer::text(s, to, b" memory=untouched");
+    }
+    if holds(block, end, 0) {
+        return answer::text(s, to, b" memory=zero");
+    }
+    answer::text(s, to, b" memory=changed")
+}
+
+fn read_into(
+    bytes: &[u8],
+    e: Engine,
+    contexts: &mut [u8; CONTEXTS],
+    stats: &mut [u8; 4],
+    p: Params,
+    block: &mut [i32],
+    places: usize,
+) -> Read {
+    if places < block.len() {
+        return residual_coding(bytes, e, contexts, stats, p, &mut block[..places]);
+    }
+    residual_coding(bytes, e, contexts, stats, p, block)
+}
+
+fn block_of(
+    s: &[u8],
+    bytes: &[u8],
+    e: Engine,
+    p: Params,
+    contexts: &[u8; CONTEXTS],
+    stats: &[u8; 4],
+    places: usize,
+    at: usize,
+) -> usize {
+    let mut block = [MARK; PLACES];
+    let mut after = *contexts;
+    let mut left = *stats;
+    let r = read_into(bytes, e, &mut after, &mut left, p, &mut block, places);
+    let end = area(p.log2);
+    match r {
+        Read::Block(f, next) => {
+            let to = found(s, at, f, &block, end);
+            let to = engine::state(s, to, b" state=$1,$2,$3,$4,$5", 0, next, 0);
+            let to = answer::contexts(s, to, contexts, &after);
+            answer::statistics(s, to, &left)
+        }
+        Read::Refused(n) => {
+            let to = refused(s, at, n, &block, end);
+            let right = same_contexts(contexts, &after) & same_statistics(stats, &left);
+            answer::unless(s, to, right, b" ctx=changed")
+        }
+    }
+}
+
+pub fn block(s: &[u8], bytes: &[u8], e: Engine, places: usize, at: usize) -> usize {
+    let mut contexts = [64u8; CONTEXTS];
+    let mut stats = [0u8; 4];
+    let lent = given::lent(value(s, b"ctx"), &mut contexts);
+    if !(given::lent(value(s, b"stats"), &mut stats) & lent) {
+        return NONE;
+    }
+    match given::params(value(s, b"p")) {
+        Chosen::Are(p) => block_of(s, bytes, e, p, &contexts, &stats, places, at),
+        Chosen::Missing => NONE,
+    }
+}
+
+fn list_into(
+    bins: &[u8],
+    stats: &mut [u8; 4],
+    p: Params,
+    block: &mut [i32],
+    places: usize,
+) -> ReadList {
+    if places < block.len() {
+        return read_bins(bins, stats, p, &mut block[..places]);
+    }
+    read_bins(bins, stats, p, block)
+}
+
+fn list_of(s: &[u8], bins: &[u8], p: Params, stats: &[u8; 4], places: usize, at: usize) -> usize {
+    let mut block = [MARK; PLACES];
+    let mut left = *stats;
+    let r = list_into(bins, &mut left, p, &mut block, places);
+    let end = area(p.log2);
+    match r {
+        ReadList::Block(f) => {
+            let to = found(s, at, f, &block, end);
+            let to = answer::statistics(s, to, &left);
+            let right = is_list_of(p, stats, &block, f, bins, &left);
+            answer::unless(s, to, right, b" again=differs")
+        }
+        ReadList::Refused(n) => {
+            let to = refused(s, at, n, &block, end);
+            answer::unless(s, to, same_statistics(stats, &left), b" stats=changed")
+        }
+    }
+}
+
+pub fn list(s: &[u8], bins: &[u8], places: usize, at: usize) -> usize {
+    let mut stats = [0u8; 4];
+    if !given::lent(value(s, b"stats"), &mut stats) {
+        return NONE;
+    }
+    match given::params(value(s, b"p")) {
+        Chosen::Are(p) => list_of(s, bins, p, &stats, places, at),
+        Chosen::Missing => NONE,
+    }
+}

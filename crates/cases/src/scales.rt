@@ -1,0 +1,83 @@
+// Records of the cross-component scale.
+//
+//     cross component payload [state ctx] => answer scale state changes
+//     crosslist component list => answer scale
+//     crosswrite component scale [room] => answer length list
+use crate::answer;
+use crate::answer::NONE;
+use crate::answer::same_contexts;
+use crate::engine;
+use crate::given;
+use crate::given::LIST;
+use crate::given::Signed;
+use crate::record::value;
+use crate::writes;
+use bins::state::Engine;
+use bins::tags::CONTEXTS;
+use hevc_scale::entries::Read;
+use hevc_scale::entries::ReadList;
+use hevc_scale::entries::read_scale;
+use hevc_scale::entries::read_scale_bins;
+use hevc_scale::entries::write_scale_bins;
+use hevc_writer::entries::Written;
+
+fn scaled(s: &[u8], at: usize, z: i32) -> usize {
+    answer::signed(s, answer::text(s, at, b"answer=0 scale="), z)
+}
+
+pub fn payload(s: &[u8], bytes: &[u8], e: Engine, component: u32, at: usize) -> usize {
+    let mut contexts = [64u8; CONTEXTS];
+    if given::lent(value(s, b"ctx"), &mut contexts) {
+        return from(s, bytes, e, component, &contexts, at);
+    }
+    NONE
+}
+
+fn from(
+    s: &[u8],
+    bytes: &[u8],
+    e: Engine,
+    component: u32,
+    contexts: &[u8; CONTEXTS],
+    at: usize,
+) -> usize {
+    let mut after = *contexts;
+    match read_scale(bytes, e, &mut after, component) {
+        Read::Scale(z, next) => {
+            let to = scaled(s, at, z);
+            let to = engine::state(s, to, b" state=$1,$2,$3,$4,$5", 0, next, 0);
+            answer::contexts(s, to, contexts, &after)
+        }
+        Read::Refused(n) => {
+            let to = answer::refusal(s, at, n);
+            answer::unless(s, to, same_contexts(contexts, &after), b" ctx=changed")
+        }
+    }
+}
+
+pub fn list(s: &[u8], bins: &[u8], component: u32, at: usize) -> usize {
+    match read_scale_bins(bins, component) {
+        ReadList::Scale(z) => scaled(s, at, z),
+        ReadList::Refused(n) => answer::refusal(s, at, n),
+    }
+}
+
+fn into_room(component: u32, z: i32, room: &mut [u8], length: usize) -> Written {
+    if length < room.len() {
+        return write_scale_bins(component, z, &mut room[..length]);
+    }
+    write_scale_bins(component, z, room)
+}
+
+fn written(s: &[u8], component: u32, z: i32, length: usize, at: usize) -> usize {
+    let mut room = [writes::BLANK; LIST];
+    let r = into_room(component, z, &mut room, length);
+    writes::told(s, at, r, &room)
+}
+
+pub fn write(s: &[u8], n: &[u32; 8], at: usize) -> usize {
+    match given::integer(value(s, b"scale")) {
+        Signed::Is(z) => written(s, n[given::COMPONENT], z, given::size(n[given::ROOM]), at),
+        Signed::Missing => NONE,
+    }
+}

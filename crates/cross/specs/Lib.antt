@@ -1,6 +1,0 @@
-pub mod Scale
-pub mod Entries
-pub mod ScaleLaws
-pub mod EntryLaws
-pub mod Exact
-pub mod Cases

@@ -1,5 +1,0 @@
-pub mod GreatestLaws
-pub mod RowLaws
-pub mod ExtentLaws
-pub mod EntryExtents
-pub mod Instance

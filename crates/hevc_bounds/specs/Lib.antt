@@ -1,0 +1,5 @@
+pub mod GroupLaws
+pub mod Pieces
+pub mod ResidualBounds
+pub mod Among
+pub mod EntryNumbers

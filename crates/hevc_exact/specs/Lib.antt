@@ -1,0 +1,11 @@
+pub mod RemainderLaws
+pub mod HeadLaws
+pub mod PlaceLaws
+pub mod LevelLaws
+pub mod CoeffsLaws
+pub mod SubBlockLaws
+pub mod ResidualLaws
+pub mod RefusalLaws
+pub mod EntryLaws
+pub mod PieceLaws
+pub mod Exact

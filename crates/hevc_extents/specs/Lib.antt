@@ -1,0 +1,4 @@
+pub mod RowLaws
+pub mod ExtentLaws
+pub mod EntryExtents
+pub mod Instance

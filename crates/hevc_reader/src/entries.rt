@@ -1,0 +1,198 @@
+// The two entry points: a block from a payload, and a block from a bin list.
+// Each takes anything: what document 01 does not accept is answered by its number.
+use crate::block::Blocked;
+use crate::block::Found;
+use crate::block::read_block;
+use bins::places::BitPlace;
+use bins::state::Engine;
+use bins::state::Interval;
+use bins::tags::CONTEXTS;
+use cabac::engine::open;
+use cabac::engine::payload_refusal;
+use cabac::engine::settle;
+use cabac::engine::state_refusal;
+use hevc_residual::params::Params;
+use hevc_rules::checks::above_refusal;
+use hevc_rules::checks::bins_checks;
+use hevc_rules::checks::parameter_refusal;
+use hevc_rules::sizes::area_of;
+use tables::decision_table;
+ghost use mathlib.Core.Path.{_≡_};
+ghost use mathlib.Core.Bool.{true};
+ghost use mathlib.Core.List.{_++_};
+ghost use Prim.Native.Nat.{_≤_};
+ghost use lib.ListN.{length, drop, replicate};
+ghost use lib.IntN.{pos};
+ghost use Rattle.tables.specs.Decisions.{decisions};
+ghost use Rattle.hevc_residual.specs.Wanted.{area};
+ghost use Rattle.hevc_residual.specs.Entries.{readPayload, readBins};
+ghost use Rattle.hevc_elements.specs.Agree.{Reads};
+ghost use Rattle.hevc_residual.specs.Limits.{Accepted, Statistics};
+ghost use Rattle.hevc_reader.specs.EntriesAgree.{payloadRead, binsRead, payloadChecks, blockedNo, SaysInto};
+
+// A block with the state behind it, or the number of the refusal.
+pub enum Read {
+    Block(Found, Engine),
+    Refused(u32),
+}
+
+// A block, or the number of the refusal.
+pub enum ReadList {
+    Block(Found),
+    Refused(u32),
+}
+
+// 1, 2, 4, 3, 6
+fn payload_checks(
+    bytes: &[u8],
+    e: Engine,
+    contexts: &[u8],
+    stats: &[u8],
+    p: Params,
+    block: &[i32],
+) -> u32
+    ensures { λ r. ⌜ r ≡ payloadChecks (now (bytes .entry)) e (now (contexts .entry)) (now (stats .entry)) p (now (block .entry)) ⌝ }
+{
+    let a = payload_refusal(bytes);
+    if a != 0 {
+        return a;
+    }
+    let b = parameter_refusal(p, block);
+    if b != 0 {
+        return b;
+    }
+    let c = state_refusal(bytes, e);
+    if c != 0 {
+        return c;
+    }
+    let d = above_refusal(contexts, 127);
+    if d != 0 {
+        return d;
+    }
+    let f = above_refusal(stats, 84);
+    if f != 0 {
+        return f;
+    }
+    if e.ended {
+        return 6;
+    }
+    0
+}
+
+fn blocked_refusal(r: Blocked) -> u32
+    ensures { λ n. ⌜ n ≡ blockedNo r ⌝ }
+{
+    match r {
+        Blocked::Got(_, _) => 0,
+        Blocked::Refused(n) => n,
+    }
+}
+
+// Zero in the first n places.
+fn clear(block: &mut [i32], n: usize)
+    requires { ⌜ n ≤ length (now block) ⌝ }
+    ensures { λ _. ⌜ now (block .exit) ≡ replicate n (pos 0) ++ drop n (now (block .entry)) ⌝ }
+{
+    let mut i: usize = 0;
+    while i < n {
+        block[i] = 0;
+        i += 1;
+    }
+}
+
+// A block into the first places, by a table that is lent. Contexts and statistics are copied, and stored again only where the block is accepted.
+fn read_into(
+    list: bool,
+    table: &[u32; 512],
+    contexts: &mut [u8; CONTEXTS],
+    stats: &mut [u8; 4],
+    bytes: &[u8],
+    p: Params,
+    block: &mut [i32],
+    x: Interval,
+) -> Blocked
+    requires { ⌜ Reads list (now bytes) x (now contexts) × (now table ≡ decisions) × Accepted p × (area p ≤ length (now block)) × Statistics (now stats) ⌝ }
+    ensures { λ r. ⌜ SaysInto p list (now (bytes .entry)) x (now (contexts .entry)) (now (stats .entry)) (now (block .entry)) r (now (contexts .exit)) (now (stats .exit)) (now (block .exit)) ⌝ }
+{
+    let mut cs = *contexts;
+    let mut st = *stats;
+    let n = area_of(p.log2);
+    clear(block, n);
+    let r = read_block(list, table, &mut cs, &mut st, bytes, p, &mut block[..n], x);
+    let Blocked::Got(_, _) = r else {
+        clear(block, n);
+        return r;
+    };
+    *contexts = cs;
+    *stats = st;
+    r
+}
+
+// One block from a payload, of what the checks let through, by a table that is lent: for callers that read several.
+pub fn read_checked(
+    table: &[u32; 512],
+    bytes: &[u8],
+    e: Engine,
+    contexts: &mut [u8; CONTEXTS],
+    stats: &mut [u8; 4],
+    p: Params,
+    block: &mut [i32],
+) -> Read
+    requires { ⌜ (now table ≡ decisions) × (0 ≡ payloadChecks (now bytes) e (now contexts) (now stats) p (now block)) ⌝ }
+    ensures { λ r. ⌜ payloadRead r (now (contexts .exit)) (now (stats .exit)) (now (block .exit)) ≡ readPayload (now (bytes .entry)) e (now (contexts .entry)) (now (stats .entry)) p (now (block .entry)) ⌝ }
+{
+    let r = read_into(false, table, contexts, stats, bytes, p, block, open(e));
+    let Blocked::Got(found, x) = r else {
+        return Read::Refused(blocked_refusal(r));
+    };
+    let state = settle(bytes, e, x);
+    Read::Block(found, state)
+}
+
+// One block from a payload. What the extents say of an accepted block: specs/Reach.antt, `block-reach`.
+pub fn residual_coding(
+    bytes: &[u8],
+    e: Engine,
+    contexts: &mut [u8; CONTEXTS],
+    stats: &mut [u8; 4],
+    p: Params,
+    block: &mut [i32],
+) -> Read
+    ensures { λ r. ⌜ payloadRead r (now (contexts .exit)) (now (stats .exit)) (now (block .exit)) ≡ readPayload (now (bytes .entry)) e (now (contexts .entry)) (now (stats .entry)) p (now (block .entry)) ⌝ }
+{
+    let n = payload_checks(bytes, e, contexts, stats, p, block);
+    if n != 0 {
+        return Read::Refused(n);
+    }
+    let table = decision_table();
+    read_checked(&table, bytes, e, contexts, stats, p, block)
+}
+
+// One block from a bin list, which it must end. What the extents say: specs/Reach.antt, `list-reach`.
+pub fn read_bins(bytes: &[u8], stats: &mut [u8; 4], p: Params, block: &mut [i32]) -> ReadList
+    ensures { λ r. ⌜ binsRead r (now (stats .exit)) (now (block .exit)) ≡ readBins (now (bytes .entry)) (now (stats .entry)) p (now (block .entry)) ⌝ }
+{
+    let n = bins_checks(stats, p, block);
+    if n != 0 {
+        return ReadList::Refused(n);
+    }
+    let mut contexts = [0u8; CONTEXTS];
+    let mut st = *stats;
+    let front = Interval {
+        range: 256,
+        offset: 0,
+        at: BitPlace(0),
+    };
+    let table = decision_table();
+    let r = read_into(true, &table, &mut contexts, &mut st, bytes, p, block, front);
+    let Blocked::Got(found, x) = r else {
+        return ReadList::Refused(blocked_refusal(r));
+    };
+    let at = x.at;
+    if at.0 != bytes.len() {
+        clear(block, area_of(p.log2));
+        return ReadList::Refused(13);
+    }
+    *stats = st;
+    ReadList::Block(found)
+}

@@ -1,0 +1,13 @@
+-- `rows2` meets its contract, by computing. Assumes nothing.
+use mathlib.Core.Path.{refl}
+use Rattle.hevc_residual.specs.Scan.{scanOrder}
+use Rattle.hevc_scans.specs.Pairs.{pairsOf}
+use Rattle.hevc_scans.proofs.orders.rows2.Statement.{statement}
+use Rattle.hevc_scans.proofs.orders.rows2.Tie as tie
+
+returns : tie.Need-returns
+unfolding pairsOf scanOrder
+returns c = refl
+
+pub rows2-spec : {M : Type 1} → statement M
+rows2-spec = tie.close (tie.spec returns)

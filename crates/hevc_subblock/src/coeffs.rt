@@ -1,0 +1,170 @@
+// The levels at the significant places of a sub-block: greater1, greater2, alignment, signs, remainders.
+use crate::greater::Greaters;
+use crate::greater::greater1;
+use crate::levels::Leveled;
+use crate::levels::read_levels;
+use crate::places::refusal;
+use bins::state::Interval;
+use bins::state::Step;
+use bins::steps::align_bypass;
+use bins::steps::decode_bypass_bits;
+use bins::tags::CONTEXTS;
+use hevc_elements::head::Head;
+use hevc_elements::shapes::flag_if;
+use hevc_residual::params::Params;
+use hevc_rules::coeffs::Carry;
+use hevc_rules::coeffs::aligns;
+use hevc_rules::coeffs::eight;
+use hevc_rules::coeffs::greater1_base;
+use hevc_rules::coeffs::greater2_number;
+use hevc_rules::coeffs::hidden;
+use hevc_rules::coeffs::rice_start;
+use hevc_rules::coeffs::sb_type;
+use hevc_rules::levels::Going;
+use hevc_rules::places::Places;
+ghost use mathlib.Core.Path.{_≡_};
+ghost use Prim.Native.Nat.{_≤_, _<_};
+ghost use lib.ListN.{length};
+ghost use Rattle.tables.specs.Decisions.{decisions};
+ghost use Rattle.bins.specs.Sources.{Readable};
+ghost use Rattle.hevc_residual.specs.Wanted.{area, innerOf};
+ghost use Rattle.hevc_residual.specs.Remainder.{log2TransformRange};
+ghost use Rattle.hevc_residual.specs.Scan.{spot};
+ghost use Rattle.hevc_scans.specs.Pairs.{pairsOf};
+ghost use Rattle.hevc_elements.specs.Agree.{Reads};
+ghost use Rattle.hevc_rules.specs.Packing.{Packs};
+ghost use Rattle.hevc_rules.specs.LevelsAgree.{Site};
+ghost use Rattle.hevc_residual.specs.Limits.{Statistics};
+ghost use Rattle.hevc_rules.specs.CoeffsAgree.{Carries};
+ghost use Rattle.hevc_subblock.specs.CoeffsAgree.{SaysCoeffs, alignedIf, greatersNumber, leveledNumber};
+
+pub enum Carried {
+    Got(Carry, Interval),
+    Refused(u32),
+}
+
+fn align_if(due: bool, list: bool, bytes: &[u8], x: Interval) -> Step
+    requires { ⌜ Readable list (now bytes) x ⌝ }
+    ensures { λ r. ⌜ r ≡ alignedIf due list (now (bytes .entry)) x ⌝ }
+{
+    if due {
+        return align_bypass(list, bytes, x);
+    }
+    Step::Bin(0, x)
+}
+
+fn greaters_refusal(g: Greaters) -> u32
+    ensures { λ r. ⌜ r ≡ greatersNumber g ⌝ }
+{
+    match g {
+        Greaters::Got(_, _) => 0,
+        Greaters::Refused(n) => n,
+    }
+}
+
+fn leveled_refusal(l: Leveled) -> u32
+    ensures { λ r. ⌜ r ≡ leveledNumber l ⌝ }
+{
+    match l {
+        Leveled::Got(_, _) => 0,
+        Leveled::Refused(n) => n,
+    }
+}
+
+pub fn coeffs(
+    list: bool,
+    table: &[u32; 512],
+    contexts: &mut [u8; CONTEXTS],
+    bytes: &[u8],
+    order: &[[u8; 2]; 16],
+    block: &mut [i32],
+    stats: &mut [u8; 4],
+    p: Params,
+    t: u32,
+    h: Head,
+    xs: u32,
+    ys: u32,
+    ctxset: u32,
+    s: Places,
+    c: Carry,
+    x: Interval,
+) -> Carried
+    requires { ⌜ Reads list (now bytes) x (now contexts) × (now table ≡ decisions) × (now order ≡ pairsOf (innerOf p)) × Site p xs ys × (length (now block) ≡ area p) × (t ≡ log2TransformRange p) × Statistics (now stats) × (ctxset ≤ 3) × Packs s × (0 < s .count) × Carries c ⌝ }
+    ensures { λ r. ⌜ (length (now (block .exit)) ≡ area p) × Statistics (now (stats .exit)) × SaysCoeffs p h (spot xs ys) list (now (bytes .entry)) ctxset s c x (now (contexts .entry)) (now (block .entry)) (now (stats .entry)) r (now (contexts .exit)) (now (block .exit)) (now (stats .exit)) ⌝ }
+{
+    let g = greater1(
+        list,
+        table,
+        contexts,
+        greater1_base(p.luma, ctxset),
+        eight(s.count),
+        bytes,
+        x,
+    );
+    let Greaters::Got(m, x1) = g else {
+        return Carried::Refused(greaters_refusal(g));
+    };
+    let mask = m.mask;
+    let f = flag_if(
+        mask != 0,
+        list,
+        table,
+        contexts,
+        greater2_number(p.luma, ctxset),
+        bytes,
+        x1,
+    );
+    let Step::Bin(two, x2) = f else {
+        return Carried::Refused(refusal(f));
+    };
+    let a = align_if(aligns(p, s.count, mask, two == 1), list, bytes, x2);
+    let Step::Bin(_z, x3) = a else {
+        return Carried::Refused(refusal(a));
+    };
+    let coded = s.count - hidden(p, h, s);
+    let b = decode_bypass_bits(list, bytes, x3, coded);
+    let Step::Bin(signs, x4) = b else {
+        return Carried::Refused(refusal(b));
+    };
+    let sb = sb_type(p, h.skip);
+    let stat = stats[sb];
+    let start = Going {
+        places: s.list,
+        count: s.count,
+        mask,
+        bins: eight(s.count),
+        seen: false,
+        signs: coded,
+        rice: rice_start(p, stat),
+        had: false,
+        sum: 0,
+        column: c.column,
+        stat,
+    };
+    let l = read_levels(
+        list,
+        bytes,
+        order,
+        block,
+        p,
+        t,
+        xs,
+        ys,
+        two == 1,
+        signs,
+        start,
+        x4,
+    );
+    let Leveled::Got(e, x5) = l else {
+        return Carried::Refused(leveled_refusal(l));
+    };
+    stats[sb] = e.stat;
+    Carried::Got(
+        Carry {
+            carry: m.carry,
+            first: false,
+            column: e.column,
+        },
+        x5,
+    )
+}

@@ -1,0 +1,17 @@
+pub mod Every
+pub mod Reached
+pub mod Levels
+pub mod Lent
+pub mod Among
+pub mod Shapes
+pub mod Counters
+pub mod TreeLaws
+pub mod GoesLaws
+pub mod ReaderLaws
+pub mod ShapeLaws
+pub mod ShapeBounds
+pub mod ListLaws
+pub mod LevelLaws
+pub mod GreatestLaws
+pub mod Outcome
+pub mod Agree

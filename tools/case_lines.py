@@ -1,0 +1,150 @@
+#!/usr/bin/env python3
+"""Writes records that the program cases reads, from the vectors of real streams.
+
+    case_lines.py VECTORS FILE [MORE]     FILE is crates/cases/stdin: what stands behind its line MARK is written anew
+    case_lines.py VECTORS FILE all        FILE gets every record of the vectors, not only a sample
+
+VECTORS has hevc.txt, rext.txt, forced.txt, cross.txt, init.txt, engine.txt (VECTORS/FORMAT.md) and the folder 02 with engine.txt, extents.txt and
+cross.txt, whose lines are records already (VECTORS/FORMAT-02.md). MORE is what `oracle sample` writes (oracle/README.md), records too.
+
+A block of a stream becomes a record of the payload reader, one of the bin reader, which the program writes again, and one of the bin writer
+with a room of one byte less than that list; its row extent is the greatest row that has a level. A scale becomes the same. A slice becomes a
+record for each segment, and where it restarts one of byte alignment.
+"""
+import os
+import sys
+
+MARK = "# ==== records of the vectors, written by tools/case_lines.py"
+BLOCKS = {"hevc.txt": "true streams", "rext.txt": "streams of the reference model", "forced.txt": "ordinary bytes, read with options on"}
+# of each choice of parameters and answer the shortest records, so many of each file
+SAMPLE = 2
+# of the slices those with so few bytes: among them several with restarts
+SLICE_BYTES = 160
+# what ends crates/cases/stdin: a record but for its line feed
+CUT = ["# no record: a line without its line feed", "bypass payload=8000 count=3 => answer=0 value=4 state=510,8,12,0,0"]
+USUAL = "2,1,0,0,0,0,0,0,0,0,0,0,0,8"
+
+
+def lines_of(*path):
+    with open(os.path.join(*path), encoding="ascii") as lines:
+        return [line.rstrip("\n") for line in lines]
+
+
+def field(key, value, usual):
+    return "" if value == usual else f" {key}={value}"
+
+
+def greatest_row(levels, log2):
+    return max(int(level.split(":")[0]) >> log2 for level in levels.split(","))
+
+
+def block_records(fields):
+    """The payload reader's record, the bin reader's, and of an accepted block the bin writer's for a room of one byte less."""
+    log2, parameters = int(fields[2]), ",".join(fields[2:16])
+    payload, contexts, statistics, bins, answer = fields[19:24]
+    skip, rdpcm, column, _, greatest, levels = fields[24:30]
+    chosen = field("p", parameters, USUAL)
+    lent = field("stats", statistics, "00000000")
+    block = f"block payload={payload} state={','.join(fields[16:19])},0,0{chosen} ctx={contexts}{lent} => "
+    read = f"list list1={bins}{chosen}{lent} => "
+    if answer != "0":
+        refused = f"answer={answer} memory=zero"
+        return [block + refused, read + refused]
+    found = f"answer=0 skip={skip} rdpcm={rdpcm} column={column} row={greatest_row(levels, log2)} greatest={greatest} levels={levels}"
+    behind = f"state={','.join(fields[30:33])},0,0 changes={fields[33]} stats={fields[34]}"
+    choices = field("skip", skip, "0") + field("rdpcm", rdpcm, "-1")
+    short = f"write levels={levels}{choices}{chosen}{lent} room={len(bins) - 1} => answer=12"
+    return [f"{block}{found} {behind}", f"{read}{found} stats={fields[34]}", short]
+
+
+def sample(records):
+    """The shortest records of each choice of parameters and answer, in the order of the file."""
+    kinds = {}
+    for place, fields in enumerate(records):
+        kinds.setdefault((*fields[2:16], fields[23]), []).append((sum(map(len, fields[19:23])), place))
+    kept = sorted(place for places in kinds.values() for _, place in sorted(places)[:SAMPLE])
+    return [records[place] for place in kept]
+
+
+def blocks(folder, every):
+    for name, what in BLOCKS.items():
+        records = [line.split(" ") for line in lines_of(folder, name) if line.startswith("B ")]
+        yield f"# blocks of {what}: by the payload reader, by the bin reader, whose lists the writer makes again, and 12"
+        for fields in records if every else sample(records):
+            yield from block_records(fields)
+
+
+def scales(folder):
+    yield "# scales of real streams: by the payload reader, by the list reader, and by the writer, whose list is the same, and 12"
+    for line in lines_of(folder, "cross.txt"):
+        fields = line.split(" ")
+        if fields[0] == "X":
+            _, _, component, r, o, p, payload, contexts, bins, scale, r2, o2, p2, changes = fields
+            length = len(bins) // 2
+            yield (
+                f"cross component={component} payload={payload} state={r},{o},{p},0,0 ctx={contexts} => "
+                f"answer=0 scale={scale} state={r2},{o2},{p2},0,0 changes={changes}"
+            )
+            yield f"crosslist component={component} list={bins} => answer=0 scale={scale}"
+            yield f"crosswrite component={component} scale={scale} room={length} => answer=0 length={length} list={bins}"
+            yield f"crosswrite component={component} scale={scale} room={length - 1} => answer=12"
+
+
+def tables(folder):
+    yield "# initial values of real streams"
+    for line in lines_of(folder, "init.txt"):
+        fields = line.split(" ")
+        if fields[0] == "I":
+            _, _, q, values, contexts = fields
+            yield f"init values={values} q={q} => answer=0 ctx={contexts}"
+
+
+def by_number(changes):
+    return "-" if changes == "-" else ",".join(sorted(changes.split(","), key=lambda c: int(c.split(":")[0])))
+
+
+def slices(folder, every):
+    yield "# every bin of whole slices; a segment behind the first begins by a restart at the byte where alignment stands"
+    payload, ended = "", ""
+    for line in lines_of(folder, "engine.txt"):
+        fields = line.split(" ")
+        if fields[0] == "S":
+            payload, ended = fields[2], ""
+        elif every or len(payload) <= 2 * SLICE_BYTES:
+            _, byte, r, o, p, contexts, bins, r2, o2, p2, changes = fields
+            if ended:
+                yield f"align payload={payload} state={ended} => answer=0 rest={byte} state={aligned(ended, int(byte))}"
+            answer = f"answer=0 begun={r},{o},{p},0,0 bins={len(bins) // 4} state={r2},{o2},{p2},1,0 changes={by_number(changes)}"
+            yield f"slice payload={payload}{field('state', ended, '')} contexts={contexts} ops={bins} => {answer}"
+            ended = f"{r2},{o2},{p2},1,0"
+
+
+def aligned(state, byte):
+    r, o, _, ended, total = state.split(",")
+    return f"{r},{o},{8 * byte},{ended},{total}"
+
+
+def requests(folder):
+    for name in ("engine.txt", "extents.txt", "cross.txt"):
+        yield f"# == 02/{name}"
+        yield from lines_of(folder, "02", name)
+
+
+def main():
+    if len(sys.argv) not in (3, 4):
+        sys.exit(__doc__)
+    folder, name, more = sys.argv[1], sys.argv[2], sys.argv[3:]
+    every = more == ["all"]
+    kept = []
+    if not every:
+        kept = lines_of(name)
+        kept = kept[: kept.index(MARK) + 1]
+    written = [*requests(folder), *tables(folder), *slices(folder, every), *scales(folder), *blocks(folder, every)]
+    if more and not every:
+        written += ["# made blocks, half of them damaged, with the answers of the Rust or the refusals of document 01", *lines_of(more[0])]
+    with open(name, "w", encoding="ascii") as lines:
+        lines.write("\n".join([*kept, *written, *([""] if every else CUT)]))
+    print(sum(not line.startswith("#") for line in written), "records")
+
+
+main()
