@@ -1,0 +1,3 @@
+// What the bench links for packing: bin lists as payloads, as functions that C and Rust call.
+// Each takes anything that it can be handed, and answers by document 01's number; include/bulmegart.h says the same for C.
+pub mod packs; // packs.rt: a block's list, and a scale's

@@ -1,0 +1,2 @@
+// HEVC's bin lists as payloads.
+pub mod entries; // entries.rt: the entry points

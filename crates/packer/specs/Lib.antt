@@ -1,0 +1,6 @@
+pub mod Ink
+pub mod InkLaws
+pub mod WritLaws
+pub mod StepCode
+pub mod WalkLaws
+pub mod IntoCode

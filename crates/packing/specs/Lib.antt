@@ -1,0 +1,10 @@
+pub mod Pack
+pub mod PutBits
+pub mod FollowLaws
+pub mod TreeLaws
+pub mod PayloadLaws
+pub mod Packs
+pub mod PutBitsLaws
+pub mod LikeLaws
+pub mod Entries
+pub mod EntriesLaws
