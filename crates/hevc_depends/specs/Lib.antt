@@ -1,0 +1,6 @@
+pub mod Reached
+pub mod Depends
+pub mod TrayReached
+pub mod TrayDepends
+pub mod Instances
+pub mod TrayInstance
