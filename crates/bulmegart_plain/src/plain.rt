@@ -1,0 +1,203 @@
+// The plain readers, the plain writer of bins, and a plain record from what is left to say.
+use bins::tags::CONTEXTS;
+use bulmegart::records::BlockParams;
+use bulmegart::records::EngineState;
+use bulmegart::records::block_handed;
+use bulmegart::records::engine_of;
+use bulmegart::records::flag_byte;
+use bulmegart::records::flag_refusal;
+use bulmegart::records::is_set;
+use bulmegart::records::or_else;
+use bulmegart::records::params_flags;
+use bulmegart::records::params_of;
+use bulmegart_blocks::blocks::BlockAnswer;
+use bulmegart_blocks::blocks::ListAnswer;
+use bulmegart_blocks::blocks::block_answer;
+use bulmegart_blocks::blocks::list_answer;
+use bulmegart_blocks::lists::WriteAnswer;
+use bulmegart_blocks::lists::choice_of;
+use bulmegart_blocks::lists::write_answer;
+use bulmegart_blocks::lists::write_handed;
+use hevc_plain::entries::read_bins_plain;
+use hevc_plain::entries::residual_coding_plain;
+use hevc_plain::entries::write_bins_plain;
+use hevc_plain::record::Made;
+use hevc_plain::record::plain_record;
+use hevc_reader::entries::Read;
+use hevc_reader::entries::ReadList;
+use hevc_residual::params::Params;
+use hevc_writer::entries::Written;
+ghost use mathlib.Core.Path.{_≡_};
+ghost use Rattle.bulmegart_blocks.specs.Blocks.{blockLeft, listLeft};
+ghost use Rattle.bulmegart_blocks.specs.Lists.{writeLeft};
+ghost use Rattle.hevc_plain.specs.Record.{madeSays};
+ghost use Rattle.bulmegart_plain.specs.Plain.{readPlainBlock, readPlainList, writePlainBlock, paramsGiven, recordFlags, recordGiven, plainParams};
+
+// A plain record, all zeros after a refusal.
+#[repr(C)]
+pub struct ParamsAnswer {
+    pub number: u32,
+    pub params: BlockParams,
+}
+
+// One plain block from a payload.
+#[no_mangle]
+pub extern "C" fn bulmegart_residual_coding_plain(
+    payload: &[u8],
+    state: EngineState,
+    contexts: &mut [u8; CONTEXTS],
+    statistics: &mut [u8; 4],
+    params: BlockParams,
+    levels: &mut [i32],
+) -> BlockAnswer
+    ensures { λ r. ⌜ blockLeft r (now (contexts .exit)) (now (statistics .exit)) (now (levels .exit)) ≡ readPlainBlock (now (payload .entry)) state (now (contexts .entry)) (now (statistics .entry)) params (now (levels .entry)) ⌝ }
+{
+    let n = block_handed(payload, state, params);
+    if n != 0 {
+        return block_answer(Read::Refused(n), state);
+    }
+    let r = residual_coding_plain(
+        payload,
+        engine_of(state),
+        contexts,
+        statistics,
+        params_of(params),
+        levels,
+    );
+    block_answer(r, state)
+}
+
+// One plain block from a bin list, which it must end.
+#[no_mangle]
+pub extern "C" fn bulmegart_read_bins_plain(
+    list: &[u8],
+    statistics: &mut [u8; 4],
+    params: BlockParams,
+    levels: &mut [i32],
+) -> ListAnswer
+    ensures { λ r. ⌜ listLeft r (now (statistics .exit)) (now (levels .exit)) ≡ readPlainList (now (list .entry)) (now (statistics .entry)) params (now (levels .entry)) ⌝ }
+{
+    let n = params_flags(params);
+    if n != 0 {
+        return list_answer(ReadList::Refused(n));
+    }
+    let r = read_bins_plain(list, statistics, params_of(params), levels);
+    list_answer(r)
+}
+
+// One plain block as a bin list in the room.
+#[no_mangle]
+pub extern "C" fn bulmegart_write_bins_plain(
+    params: BlockParams,
+    statistics: &mut [u8; 4],
+    levels: &[i32],
+    skip: u8,
+    rdpcm: u8,
+    room: &mut [u8],
+) -> WriteAnswer
+    ensures { λ r. ⌜ writeLeft r (now (statistics .exit)) (now (room .exit)) ≡ writePlainBlock params (now (statistics .entry)) (now (levels .entry)) skip rdpcm (now (room .entry)) ⌝ }
+{
+    let n = write_handed(params, skip, rdpcm);
+    if n != 0 {
+        return write_answer(Written::Refused(n));
+    }
+    let r = write_bins_plain(
+        params_of(params),
+        statistics,
+        levels,
+        is_set(skip),
+        choice_of(rdpcm),
+        room,
+    );
+    write_answer(r)
+}
+
+fn params_given(p: Params) -> BlockParams
+    ensures { λ r. ⌜ r ≡ paramsGiven p ⌝ }
+{
+    BlockParams {
+        log2: p.log2,
+        scan: p.scan,
+        depth: p.depth,
+        luma: flag_byte(p.luma),
+        hiding: flag_byte(p.hiding),
+        skip_allowed: flag_byte(p.skip_allowed),
+        lossless: flag_byte(p.lossless),
+        persistent: flag_byte(p.persistent),
+        skip_context: flag_byte(p.skip_context),
+        explicit_rdpcm: flag_byte(p.explicit),
+        implicit_rdpcm: flag_byte(p.implicit),
+        inter: flag_byte(p.inter),
+        aligning: flag_byte(p.aligning),
+        extended: flag_byte(p.extended),
+    }
+}
+
+fn params_answer(r: Made) -> ParamsAnswer
+    ensures { λ a. ⌜ a ≡ recordGiven (madeSays r) ⌝ }
+{
+    match r {
+        Made::Record(p) => ParamsAnswer {
+            number: 0,
+            params: params_given(p),
+        },
+        Made::Refused(n) => ParamsAnswer {
+            number: n,
+            params: BlockParams {
+                log2: 0,
+                scan: 0,
+                depth: 0,
+                luma: 0,
+                hiding: 0,
+                skip_allowed: 0,
+                lossless: 0,
+                persistent: 0,
+                skip_context: 0,
+                explicit_rdpcm: 0,
+                implicit_rdpcm: 0,
+                inter: 0,
+                aligning: 0,
+                extended: 0,
+            },
+        },
+    }
+}
+
+// 4 of what should be a flag
+fn record_flags(luma: u8, hiding: u8, skip_allowed: u8, lossless: u8, inter: u8) -> u32
+    ensures { λ r. ⌜ r ≡ recordFlags luma hiding «skip_allowed» lossless inter ⌝ }
+{
+    let from_lossless = or_else(flag_refusal(lossless), flag_refusal(inter));
+    let from_skip_allowed = or_else(flag_refusal(skip_allowed), from_lossless);
+    let from_hiding = or_else(flag_refusal(hiding), from_skip_allowed);
+    or_else(flag_refusal(luma), from_hiding)
+}
+
+// A plain record.
+#[no_mangle]
+pub extern "C" fn bulmegart_plain_params(
+    log2: u32,
+    scan: u32,
+    luma: u8,
+    hiding: u8,
+    skip_allowed: u8,
+    lossless: u8,
+    inter: u8,
+) -> ParamsAnswer
+    ensures { λ r. ⌜ r ≡ plainParams log2 scan luma hiding «skip_allowed» lossless inter ⌝ }
+{
+    let n = record_flags(luma, hiding, skip_allowed, lossless, inter);
+    if n != 0 {
+        return params_answer(Made::Refused(n));
+    }
+    let r = plain_record(
+        log2,
+        is_set(luma),
+        scan,
+        is_set(hiding),
+        is_set(skip_allowed),
+        is_set(lossless),
+        is_set(inter),
+    );
+    params_answer(r)
+}
