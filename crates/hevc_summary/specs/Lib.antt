@@ -1,0 +1,9 @@
+pub mod Summary
+pub mod Entries
+pub mod CellLaws
+pub mod TrueLaws
+pub mod EntryLaws
+pub mod Agree
+pub mod CodeLaws
+pub mod ReadLaws
+pub mod Cases

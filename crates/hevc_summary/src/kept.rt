@@ -1,0 +1,365 @@
+// A kept block: n·n levels, a record for each 4x4 sub-block (counts and sums), and one for the whole.
+use hevc_elements::remainder::in_range;
+use hevc_extents::magnitude;
+use hevc_rules::sizes::area_of;
+ghost use mathlib.Core.Path.{_≡_};
+ghost use Prim.Native.Nat.{_+_, _*_, _^_, _≤_, _<_, min};
+ghost use lib.ListN.{length};
+ghost use lib.IntN.{pos, natAbs};
+ghost use Rattle.hevc_residual.specs.Wanted.{negative};
+ghost use Rattle.counting.specs.Count.{updated};
+ghost use Rattle.hevc_summary.specs.Summary.{area, subs, cell, subOf, countIn, sumIn, subMost, Small, Keeps};
+ghost use Rattle.hevc_summary.specs.Entries.{most, formRefusal, levelRefusal, wholeFrom, freshCounts, freshSums, zeros, copied, recount, clear, copyRefusal, copyIn};
+ghost use Rattle.hevc_summary.specs.Agree.{keptOf, afterOf, SetSays};
+
+// What a kept block is made for: its size and its range.
+#[repr(C)]
+pub struct Form {
+    pub log2: u32, // the block is n by n, n = 2^log2
+    pub bits: u32, // T: levels are -2^T to 2^T - 1
+}
+
+// The record of the whole.
+#[repr(C)]
+pub struct Whole {
+    pub count: u64, // levels that are not zero
+    pub sum: u64, // of magnitudes
+    pub map: u64, // bit s: sub-block s holds a level
+}
+
+// The record of a sub-block.
+pub struct Tally {
+    pub count: u32,
+    pub sum: u64,
+}
+
+// What a change answers: 0 with the new record of the whole, or the number of the refusal with the record handed in.
+#[repr(C)]
+pub struct Changed {
+    pub number: u32,
+    pub whole: Whole,
+}
+
+// ---- places and sub-blocks
+
+// n
+fn side_of(log2: u32) -> usize
+    requires { ⌜ (2 ≤ log2) × (log2 ≤ 5) ⌝ }
+    ensures { λ r. ⌜ r ≡ 2 ^ log2 ⌝ }
+{
+    match log2 {
+        2 => 4,
+        3 => 8,
+        4 => 16,
+        _ => 32,
+    }
+}
+
+// How many sub-blocks there are.
+fn subs_of(log2: u32) -> usize
+    requires { ⌜ (2 ≤ log2) × (log2 ≤ 5) ⌝ }
+    ensures { λ r. ⌜ r ≡ subs log2 ⌝ }
+{
+    match log2 {
+        2 => 1,
+        3 => 4,
+        4 => 16,
+        _ => 64,
+    }
+}
+
+// Where place k of sub-block s stands.
+fn cell(log2: u32, s: usize, k: usize) -> usize
+    requires { ⌜ (2 ≤ log2) × (log2 ≤ 5) × (s < subs log2) × (k < 16) ⌝ }
+    ensures { λ r. ⌜ (r ≡ cell log2 s k) × (r < area log2) ⌝ }
+{
+    let n = side_of(log2);
+    let w = n / 4;
+    (4 * (s / w) + k / 4) * n + (4 * (s % w) + k % 4)
+}
+
+// The sub-block in which a place stands.
+fn sub_of(log2: u32, place: usize) -> usize
+    requires { ⌜ (2 ≤ log2) × (log2 ≤ 5) × (place < area log2) ⌝ }
+    ensures { λ r. ⌜ (r ≡ subOf log2 place) × (r < subs log2) ⌝ }
+{
+    let n = side_of(log2);
+    let w = n / 4;
+    place / n / 4 * w + place % n / 4
+}
+
+// ---- counting
+
+fn one_if(m: u32) -> u32
+    ensures { λ r. ⌜ r ≡ min 1 m ⌝ }
+{
+    if m == 0 { 0 } else { 1 }
+}
+
+// A fresh count of sub-block s.
+fn count_in(levels: &[i32], log2: u32, s: usize) -> Tally
+    requires { ⌜ (2 ≤ log2) × (log2 ≤ 5) × (s < subs log2) × (area log2 ≤ length (now levels)) ⌝ }
+    ensures { λ r. ⌜ (r .count ≡ countIn log2 (now (levels .entry)) s) × (r .sum ≡ sumIn log2 (now (levels .entry)) s) × (r .sum ≤ subMost) ⌝ }
+{
+    let mut count: u32 = 0;
+    let mut sum: u64 = 0;
+    let mut k: usize = 0;
+    while k < 16 {
+        let at = cell(log2, s, k);
+        let m = magnitude(levels[at]);
+        count += one_if(m);
+        sum += m as u64;
+        k += 1;
+    }
+    Tally { count, sum }
+}
+
+// A sum that stops at the greatest number.
+fn capped(a: u64, b: u64) -> u64
+    ensures { λ r. ⌜ r ≡ min most (a + b) ⌝ }
+{
+    if b <= 18446744073709551615 - a {
+        a + b
+    } else {
+        18446744073709551615
+    }
+}
+
+fn wide(x: u32) -> u64
+    ensures { λ r. ⌜ (r ≡ x) × (r ≤ 4294967295) ⌝ }
+{
+    x as u64
+}
+
+// Bit s of the map.
+fn bit_of(s: usize, count: u32) -> u64
+    requires { ⌜ s < 64 ⌝ }
+    ensures { λ r. ⌜ r ≡ 2 ^ s * min 1 count ⌝ }
+{
+    if count == 0 { 0 } else { 1u64 << s }
+}
+
+// The record of the whole, from those of the sub-blocks.
+fn whole_of(counts: &[u32], sums: &[u64], log2: u32) -> Whole
+    requires { ⌜ (2 ≤ log2) × (log2 ≤ 5) × (64 ≤ length (now counts)) × (64 ≤ length (now sums)) ⌝ }
+    ensures { λ r. ⌜ r ≡ wholeFrom log2 (now (counts .entry)) (now (sums .entry)) ⌝ }
+{
+    let n = subs_of(log2);
+    let mut count: u64 = 0;
+    let mut sum: u64 = 0;
+    let mut map: u64 = 0;
+    let mut s: usize = 0;
+    while s < n {
+        let c = counts[s];
+        count += wide(c);
+        sum = capped(sum, sums[s]);
+        map += bit_of(s, c);
+        s += 1;
+    }
+    Whole { count, sum, map }
+}
+
+// Every record anew.
+pub fn count_all(levels: &[i32], counts: &mut [u32; 64], sums: &mut [u64; 64], log2: u32) -> Whole
+    requires { ⌜ (2 ≤ log2) × (log2 ≤ 5) × (area log2 ≤ length (now levels)) ⌝ }
+    ensures { λ r. ⌜ (now (counts .exit) ≡ freshCounts log2 (now (levels .entry)) (now (counts .entry))) × (now (sums .exit) ≡ freshSums log2 (now (levels .entry)) (now (sums .entry))) × (r ≡ wholeFrom log2 (now (counts .exit)) (now (sums .exit))) × Small log2 (now (levels .entry)) × (64 ≤ length (now (counts .exit))) × (64 ≤ length (now (sums .exit))) ⌝ }
+{
+    let n = subs_of(log2);
+    let mut s: usize = 0;
+    while s < n {
+        let t = count_in(levels, log2, s);
+        counts[s] = t.count;
+        sums[s] = t.sum;
+        s += 1;
+    }
+    whole_of(counts, sums, log2)
+}
+
+// ---- refusals
+
+// 4
+pub fn form_refusal(f: Form, levels: &[i32]) -> u32
+    ensures { λ r. ⌜ r ≡ formRefusal f (now (levels .entry)) ⌝ }
+{
+    if f.log2 < 2 {
+        return 4;
+    }
+    if 5 < f.log2 {
+        return 4;
+    }
+    if f.bits < 15 {
+        return 4;
+    }
+    if 22 < f.bits {
+        return 4;
+    }
+    if levels.len() < area_of(f.log2) {
+        return 4;
+    }
+    0
+}
+
+fn is_negative(v: i32) -> bool
+    ensures { λ r. ⌜ r ≡ negative v ⌝ }
+{
+    v < 0
+}
+
+// 8
+fn level_refusal(f: Form, v: i32) -> u32
+    requires { ⌜ f .bits ≤ 22 ⌝ }
+    ensures { λ r. ⌜ r ≡ levelRefusal f v ⌝ }
+{
+    if in_range(f.bits, is_negative(v), magnitude(v)) {
+        0
+    } else {
+        8
+    }
+}
+
+// ---- changes
+
+// One level.
+pub fn set_level(
+    levels: &mut [i32],
+    counts: &mut [u32; 64],
+    sums: &mut [u64; 64],
+    f: Form,
+    whole: Whole,
+    place: usize,
+    v: i32,
+) -> Changed
+    ensures { λ r. ⌜ SetSays f place v (keptOf (now (levels .entry)) (now (counts .entry)) (now (sums .entry)) whole) (afterOf r (now (levels .exit)) (now (counts .exit)) (now (sums .exit))) ⌝ }
+{
+    let n = form_refusal(f, levels);
+    if n != 0 {
+        return Changed { number: n, whole };
+    }
+    if area_of(f.log2) <= place {
+        return Changed { number: 4, whole };
+    }
+    let m = level_refusal(f, v);
+    if m != 0 {
+        return Changed { number: m, whole };
+    }
+    levels[place] = v;
+    let sub = sub_of(f.log2, place);
+    let t = count_in(levels, f.log2, sub);
+    counts[sub] = t.count;
+    sums[sub] = t.sum;
+    let made = whole_of(counts, sums, f.log2);
+    Changed {
+        number: 0,
+        whole: made,
+    }
+}
+
+// A fresh count of the levels that stand there.
+pub fn recount(
+    levels: &[i32],
+    counts: &mut [u32; 64],
+    sums: &mut [u64; 64],
+    f: Form,
+    whole: Whole,
+) -> Changed
+    ensures { λ r. ⌜ (afterOf r (now (levels .entry)) (now (counts .exit)) (now (sums .exit)) ≡ recount f (keptOf (now (levels .entry)) (now (counts .entry)) (now (sums .entry)) whole)) × Keeps (f .log2) (r .number ≡ 0) (keptOf (now (levels .entry)) (now (counts .entry)) (now (sums .entry)) whole) (keptOf (now (levels .entry)) (now (counts .exit)) (now (sums .exit)) (r .whole)) ⌝ }
+{
+    let n = form_refusal(f, levels);
+    if n != 0 {
+        return Changed { number: n, whole };
+    }
+    let after = count_all(levels, counts, sums, f.log2);
+    Changed {
+        number: 0,
+        whole: after,
+    }
+}
+
+fn zero(levels: &mut [i32], n: usize)
+    requires { ⌜ n ≤ length (now levels) ⌝ }
+    ensures { λ _. ⌜ now (levels .exit) ≡ zeros n (now (levels .entry)) ⌝ }
+{
+    let mut i: usize = 0;
+    while i < n {
+        levels[i] = 0;
+        i += 1;
+    }
+}
+
+// All levels zero.
+pub fn clear(
+    levels: &mut [i32],
+    counts: &mut [u32; 64],
+    sums: &mut [u64; 64],
+    f: Form,
+    whole: Whole,
+) -> Changed
+    ensures { λ r. ⌜ (afterOf r (now (levels .exit)) (now (counts .exit)) (now (sums .exit)) ≡ clear f (keptOf (now (levels .entry)) (now (counts .entry)) (now (sums .entry)) whole)) × Keeps (f .log2) (r .number ≡ 0) (keptOf (now (levels .entry)) (now (counts .entry)) (now (sums .entry)) whole) (keptOf (now (levels .exit)) (now (counts .exit)) (now (sums .exit)) (r .whole)) ⌝ }
+{
+    let n = form_refusal(f, levels);
+    if n != 0 {
+        return Changed { number: n, whole };
+    }
+    zero(levels, area_of(f.log2));
+    let after = count_all(levels, counts, sums, f.log2);
+    Changed {
+        number: 0,
+        whole: after,
+    }
+}
+
+fn copy(levels: &mut [i32], from: &[i32], n: usize)
+    requires { ⌜ (n ≤ length (now levels)) × (n ≤ length (now from)) ⌝ }
+    ensures { λ _. ⌜ now (levels .exit) ≡ copied n (now (from .entry)) (now (levels .entry)) ⌝ }
+{
+    let mut i: usize = 0;
+    while i < n {
+        levels[i] = from[i];
+        i += 1;
+    }
+}
+
+// 4
+fn copy_refusal(f: Form, g: Form, from: &[i32], levels: &[i32]) -> u32
+    ensures { λ r. ⌜ r ≡ copyRefusal f g (now (from .entry)) (now (levels .entry)) ⌝ }
+{
+    let n = form_refusal(f, levels);
+    if n != 0 {
+        return n;
+    }
+    let m = form_refusal(g, from);
+    if m != 0 {
+        return m;
+    }
+    if f.log2 != g.log2 {
+        return 4;
+    }
+    if f.bits != g.bits {
+        return 4;
+    }
+    0
+}
+
+// Another block of the same size and range.
+pub fn copy_in(
+    levels: &mut [i32],
+    counts: &mut [u32; 64],
+    sums: &mut [u64; 64],
+    f: Form,
+    whole: Whole,
+    g: Form,
+    from: &[i32],
+) -> Changed
+    ensures { λ r. ⌜ (afterOf r (now (levels .exit)) (now (counts .exit)) (now (sums .exit)) ≡ copyIn f g (now (from .entry)) (keptOf (now (levels .entry)) (now (counts .entry)) (now (sums .entry)) whole)) × Keeps (f .log2) (r .number ≡ 0) (keptOf (now (levels .entry)) (now (counts .entry)) (now (sums .entry)) whole) (keptOf (now (levels .exit)) (now (counts .exit)) (now (sums .exit)) (r .whole)) ⌝ }
+{
+    let n = copy_refusal(f, g, from, levels);
+    if n != 0 {
+        return Changed { number: n, whole };
+    }
+    copy(levels, from, area_of(f.log2));
+    let after = count_all(levels, counts, sums, f.log2);
+    Changed {
+        number: 0,
+        whole: after,
+    }
+}
