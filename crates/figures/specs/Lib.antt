@@ -1,0 +1,9 @@
+pub mod Figures
+pub mod Entries
+pub mod EachLaws
+pub mod CountLaws
+pub mod AddLaws
+pub mod Agree
+pub mod CodeLaws
+pub mod OutLaws
+pub mod Cases
