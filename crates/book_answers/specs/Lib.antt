@@ -1,0 +1,5 @@
+pub mod Answers
+pub mod AnswerLaws
+pub mod Gave
+pub mod CodeLaws
+pub mod Cases

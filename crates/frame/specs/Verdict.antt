@@ -1,0 +1,45 @@
+-- The verdict on a frame (document 02, (viii)): the greatest magnitude and the bits past the end, or the lower crate's number.
+use Prim.Native.Nat.{ℕ, zero, suc}
+use mathlib.Core.List.{List}
+use lib.ListN.{replicate}
+use lib.IntN.{ℤ, pos}
+use Rattle.bins.specs.declared.state.Engine.{Engine}
+use Rattle.cabac.specs.Numbers.{Answer, accepted, refused, _orElse_, payloadRefusal}
+use Rattle.cabac.specs.Entries.{start}
+use Rattle.cabac.specs.Contexts.{initialAll}
+use Rattle.hevc_residual.specs.Numbers.{parameterRefusal}
+use Rattle.hevc_residual.specs.Entries.{FoundAt, readPayload}
+use Rattle.frame.specs.declared.judge.Verdict.{Verdict}
+use Rattle.frame.specs.declared.judge.Verdict.the-variants as ofVerdict
+use Rattle.frame.specs.Frame.{valuesOf, payloadOf, paramsOf, quantiserOf, flagsRefusal}
+
+abbrev pub noLevels : List ℤ
+noLevels = replicate 1024 (pos 0)
+
+unfoldable pub readVerdict : Answer FoundAt → Verdict
+readVerdict (accepted f) = ofVerdict.Ok (f .found .greatest) (f .next .past)
+readVerdict (refused n) = ofVerdict.No n
+
+-- the block from the state behind the start, with the frame's own contexts; statistics are 0
+unfoldable pub startedVerdict : List ℕ → Answer Engine → Verdict
+unfolding readVerdict paramsOf
+startedVerdict bytes (accepted e) =
+    readVerdict
+    (readPayload (payloadOf bytes) e (initialAll (quantiserOf bytes) (valuesOf bytes)) (replicate 4 0) (paramsOf bytes) noLevels .answer)
+startedVerdict bytes (refused n) = ofVerdict.No n
+
+-- 1, 4
+unfoldable pub checksOf : List ℕ → ℕ
+unfolding flagsRefusal paramsOf
+checksOf bytes = payloadRefusal (payloadOf bytes) orElse flagsRefusal bytes orElse parameterRefusal (paramsOf bytes) noLevels
+
+-- behind the checks, which gave the number n: 5, then the reader's own
+unfoldable pub verdictBy : ℕ → List ℕ → Verdict
+unfolding startedVerdict
+verdictBy zero bytes = startedVerdict bytes (start (payloadOf bytes))
+verdictBy (suc n) bytes = ofVerdict.No (suc n)
+
+-- THE verdict
+unfoldable pub verdict : List ℕ → Verdict
+unfolding verdictBy checksOf
+verdict bytes = verdictBy (checksOf bytes) bytes

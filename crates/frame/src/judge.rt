@@ -1,0 +1,73 @@
+// The verdict on a frame.
+use crate::fields::flags_refusal;
+use crate::fields::params;
+use bins::state::Engine;
+use bins::tags::CONTEXTS;
+use cabac::contexts::init_contexts;
+use cabac::engine::State;
+use cabac::engine::payload_refusal;
+use cabac::engine::start;
+use hevc_reader::entries::Read;
+use hevc_reader::entries::residual_coding;
+use hevc_rules::checks::parameter_refusal;
+ghost use mathlib.Core.Path.{_≡_};
+ghost use Prim.Native.Nat.{_≤_};
+ghost use lib.ListN.{length};
+ghost use Rattle.cabac.specs.Numbers.{accepted};
+ghost use Rattle.frame.specs.Verdict.{checksOf, startedVerdict, verdict};
+
+// The greatest magnitude and the bits past the end, or the number of the refusal.
+pub enum Verdict {
+    Ok(u32, u32),
+    No(u32),
+}
+
+// 1, 4
+fn checks(bytes: &[u8]) -> u32
+    requires { ⌜ 138 ≤ length (now bytes) ⌝ }
+    ensures { λ r. ⌜ r ≡ checksOf (now (bytes .entry)) ⌝ }
+{
+    let a = payload_refusal(&bytes[138..]);
+    if a != 0 {
+        return a;
+    }
+    let b = flags_refusal(bytes);
+    if b != 0 {
+        return b;
+    }
+    let block = [0i32; 1024];
+    parameter_refusal(params(bytes), &block)
+}
+
+// The block, from the state behind the start. Contexts and statistics are the frame's own.
+fn read_from(bytes: &[u8], e: Engine) -> Verdict
+    requires { ⌜ 138 ≤ length (now bytes) ⌝ }
+    ensures { λ r. ⌜ r ≡ startedVerdict (now (bytes .entry)) (accepted e) ⌝ }
+{
+    let mut contexts = [0u8; CONTEXTS];
+    let mut stats = [0u8; 4];
+    let mut block = [0i32; 1024];
+    let p = params(bytes);
+    init_contexts(&mut contexts, &mut stats, &bytes[8..138], bytes[4]);
+    let r = residual_coding(&bytes[138..], e, &mut contexts, &mut stats, p, &mut block);
+    match r {
+        Read::Block(found, next) => Verdict::Ok(found.greatest, next.past),
+        Read::Refused(n) => Verdict::No(n),
+    }
+}
+
+// 1, 4, 5, then the reader's own numbers.
+pub fn judge(bytes: &[u8]) -> Verdict
+    requires { ⌜ 138 ≤ length (now bytes) ⌝ }
+    ensures { λ r. ⌜ r ≡ verdict (now (bytes .entry)) ⌝ }
+{
+    let n = checks(bytes);
+    if n != 0 {
+        return Verdict::No(n);
+    }
+    let s = start(&bytes[138..]);
+    match s {
+        State::Ready(e) => read_from(bytes, e),
+        State::Refused(m) => Verdict::No(m),
+    }
+}
