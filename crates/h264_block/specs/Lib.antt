@@ -1,0 +1,16 @@
+pub mod Layout
+pub mod Contexts
+pub mod PairLaws
+pub mod NumberLaws
+pub mod Block
+pub mod Refusal
+pub mod Entries
+pub mod PlaceLaws
+pub mod LevelLaws
+pub mod BlockLaws
+pub mod BlockBounds
+pub mod EntryLaws
+pub mod BlockNumbers
+pub mod Exact
+pub mod Local
+pub mod Cases

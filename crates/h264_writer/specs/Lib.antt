@@ -1,0 +1,6 @@
+pub mod MagnitudePuts
+pub mod PlacePuts
+pub mod LevelPuts
+pub mod RefusalPuts
+pub mod EntriesPuts
+pub mod Demand3

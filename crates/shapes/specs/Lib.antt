@@ -1,0 +1,3 @@
+pub mod Plain
+pub mod ShapeLaws
+pub mod SignLaws
