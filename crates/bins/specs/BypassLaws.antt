@@ -90,7 +90,7 @@ one-by false y r q h k =
 pub one-code : (l : List ℕ) (x : Interval) (b v k : ℕ) (at : BitPlace) → Goes l x → b ≡ bits l (placeOf x) 1 → at .0 ≡ ranOn l (placeOf x) 1
     → v ≡ cond (ltb (x .offset * 2 + b) (x .range)) 0 1
     → k ≡ cond (ltb (x .offset * 2 + b) (x .range)) (x .offset * 2 + b) (x .offset * 2 + b - x .range)
-    → _≡_ {A = Taken} (record { value = v; next = record { range = x .range; offset = k; at = at } }) (bypassedOn l x 1)
+    → _≡_ {A = Taken} (record { value = v; next = record { range = x .range; offset = k; position = at } }) (bypassedOn l x 1)
 unfolding bypassedOn fetchedOn
 one-code l x b v k at g p q u w =
     let y = x .offset * 2 + b in
@@ -114,7 +114,7 @@ module _ (l : List ℕ) (x : Interval) (n : ℕ) (g : Goes l x) (h : n ≤ 16) w
   few-small = omega (arith, shl-small, bits-lt l (placeOf x) n, pow-mono h)
 
   pub few-code : (v : ℕ) (at : BitPlace) → v ≡ bits l (placeOf x) n → at .0 ≡ ranOn l (placeOf x) n
-      → _≡_ {A = Taken} (record { value = ((x .offset * 2 ^ n) % 4294967296 + v) / x .range; next = record { range = x .range; offset = ((x .offset * 2 ^ n) % 4294967296 + v) % x .range; at = at } }) (bypassedOn l x n)
+      → _≡_ {A = Taken} (record { value = ((x .offset * 2 ^ n) % 4294967296 + v) / x .range; next = record { range = x .range; offset = ((x .offset * 2 ^ n) % 4294967296 + v) % x .range; position = at } }) (bypassedOn l x n)
   unfolding bypassedOn fetchedOn
   few-code v at p q =
       let a : (x .offset * 2 ^ n) % 4294967296 ≡ x .offset * 2 ^ n = mod-eq-of-lt (omega (arith, shl-small)) in

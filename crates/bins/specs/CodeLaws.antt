@@ -90,7 +90,7 @@ from-bypass true l x h = bin-readable l bypassNo x
 from-bypass false l x h = bypassed-goes l x 1 h
 
 align-goes : (l : List ℕ) (x : Interval) (b : Bool) → ltb (x .offset) 256 ≡ b → Goes l x
-    → After (Readable false l) (cond b (took false (record { range = 256; offset = x .offset; at = x .at })) (refused 7))
+    → After (Readable false l) (cond b (took false (record { range = 256; offset = x .offset; position = x .position })) (refused 7))
 align-goes l x true q h =
     record { short = h .short; fits = h .fits; least = omega arith; most = omega arith; below = ltb-true (x .offset) 256 q }
 align-goes l x false q h = tt
@@ -121,7 +121,7 @@ none-next l x g =
     let s : x .offset * 1 + 0 ≡ x .offset = omega arith in
     let o : (x .offset * 1 + 0) % x .range ≡ x .offset = rw s (mod-eq-of-lt (g .below)) in
     let a : ranOn l (placeOf x) 0 ≡ placeOf x = omega (arith, g .fits) in
-    let q : bypassedOn l x 0 .next ≡ record { range = x .range; offset = x .offset; at = record { 0 = placeOf x } } = cc in
+    let q : bypassedOn l x 0 .next ≡ record { range = x .range; offset = x .offset; position = record { 0 = placeOf x } } = cc in
     q
 
 pub bit-of : (v : ℕ) → v < 2 → bitNo (leb 1 v) ≡ v

@@ -13,7 +13,7 @@ bitNo b = cond b 1 0
 
 -- the position of an engine
 abbrev pub place : Engine → ℕ
-place e = e .at .0
+place e = e .position .0
 
 -- ---- bits drawn
 -- range r, and o with the next c bits behind it for the offset. Past the end the position stays there, and the bits are counted
@@ -22,7 +22,7 @@ fetched l e r o c =
     record {
       range = r;
       offset = o * 2 ^ c + bits l (place e) c;
-      at = record { 0 = after l (place e) c };
+      position = record { 0 = after l (place e) c };
       ended = e .ended;
       past = added (e .past) (over l (place e) c);
     }
@@ -34,7 +34,7 @@ renormed l e r o = let c = leadingZeros 9 r in fetched l e (r * 2 ^ c) o c
 -- start (9.3.2.5): range 510, offset the first 9 bits
 unfoldable pub started : List ℕ → Engine
 started l =
-    fetched l (record { range = 510; offset = 0; at = record { 0 = 0 }; ended = false; past = 0 }) 510 0 9
+    fetched l (record { range = 510; offset = 0; position = record { 0 = 0 }; ended = false; past = 0 }) 510 0 9
 
 -- ---- a decision (9.3.4.3.2)
 -- what it comes to before renormalising: the bin, the packed context behind it, range and offset
@@ -75,7 +75,7 @@ bypassed l e c =
     let f = fetched l e (e .range) (e .offset) c in
     record {
       value = f .offset / e .range;
-      next = record { range = e .range; offset = f .offset % e .range; at = f .at; ended = e .ended; past = f .past };
+      next = record { range = e .range; offset = f .offset % e .range; position = f .position; ended = e .ended; past = f .past };
     }
 
 -- ---- terminate (9.3.4.3.5): range less 2; offset at or above it answers 1 and ends the engine, with no renormalising
@@ -84,7 +84,7 @@ terminatedBy true l e = record { value = 0; next = renormed l e (e .range - 2) (
 terminatedBy false l e =
     record {
       value = 1;
-      next = record { range = e .range - 2; offset = e .offset; at = e .at; ended = true; past = e .past };
+      next = record { range = e .range - 2; offset = e .offset; position = e .position; ended = true; past = e .past };
     }
 
 unfoldable pub terminated : List ℕ → Engine → Drawn
@@ -92,7 +92,7 @@ terminated l e = terminatedBy (ltb (e .offset) (e .range - 2)) l e
 
 -- ---- alignment of the range before escape data (9.3.4.3.6)
 unfoldable pub rangeAligned : Engine → Engine
-rangeAligned e = record { range = 256; offset = e .offset; at = e .at; ended = e .ended; past = e .past }
+rangeAligned e = record { range = 256; offset = e .offset; position = e .position; ended = e .ended; past = e .past }
 
 -- ---- byte alignment: position rounded up to a whole byte; restart: align, range 510, 9 bits; ended cleared, the total past the end kept, and added to
 abbrev pub alignedByte : Engine → ℕ
@@ -100,11 +100,11 @@ alignedByte e = (place e + 7) / 8
 
 unfoldable pub byteAligned : Engine → Engine
 byteAligned e =
-    record { range = e .range; offset = e .offset; at = record { 0 = alignedByte e * 8 }; ended = e .ended; past = e .past }
+    record { range = e .range; offset = e .offset; position = record { 0 = alignedByte e * 8 }; ended = e .ended; past = e .past }
 
 unfoldable pub restarted : List ℕ → Engine → Engine
 restarted l e =
-    fetched l (record { range = 510; offset = 0; at = record { 0 = alignedByte e * 8 }; ended = false; past = e .past }) 510 0 9
+    fetched l (record { range = 510; offset = 0; position = record { 0 = alignedByte e * 8 }; ended = false; past = e .past }) 510 0 9
 
 -- ---- raw bits: range and offset stay
 unfoldable pub rawBits : List ℕ → Engine → ℕ → Drawn
@@ -114,7 +114,7 @@ rawBits l e c =
       next = record {
         range = e .range;
         offset = e .offset;
-        at = record { 0 = after l (place e) c };
+        position = record { 0 = after l (place e) c };
         ended = e .ended;
         past = added (e .past) (over l (place e) c);
       };

@@ -154,7 +154,7 @@ bypassed-local : (l m : List ℕ) (e : Engine) (c : ℕ) → place e ≤ ends l 
 unfolding bypassed
 bypassed-local l m e c h s =
     let q = fetched-local l m e (e .range) (e .offset) c h (record { room = s .room; same = s .same; drew = s .drew }) in
-    ap (λ (f : Engine). record { value = f .offset / e .range; next = record { range = e .range; offset = f .offset % e .range; at = f .at; ended = e .ended; past = f .past } }) q
+    ap (λ (f : Engine). record { value = f .offset / e .range; next = record { range = e .range; offset = f .offset % e .range; position = f .position; ended = e .ended; past = f .past } }) q
 
 -- an alignment that both refuse, or neither
 align-local : {A : Type 0} (l m : List ℕ) (r r′ : Reading) (b : Bool) (k g : Bool → Reading → Out Reading A)

@@ -13,7 +13,7 @@ use Rattle.bins.specs.Bits.{bits, ends, over, pastMost, added}
 use Rattle.bins.specs.Engine.{bitNo, split}
 
 abbrev pub placeOf : Interval → ℕ
-placeOf x = x .at .0
+placeOf x = x .position .0
 
 abbrev pub ranOn : List ℕ → ℕ → ℕ → ℕ
 ranOn l p c = min (p + c) (ends l + pastMost)
@@ -41,7 +41,7 @@ pub record Renorms (l : List ℕ) (x : Interval) (r o : ℕ) : Type 0 where
 -- ---- the steps of `Engine`, on an interval
 unfoldable pub fetchedOn : List ℕ → Interval → ℕ → ℕ → ℕ → Interval
 fetchedOn l x r o c =
-    record { range = r; offset = o * 2 ^ c + bits l (placeOf x) c; at = record { 0 = ranOn l (placeOf x) c } }
+    record { range = r; offset = o * 2 ^ c + bits l (placeOf x) c; position = record { 0 = ranOn l (placeOf x) c } }
 
 abbrev pub renormedOn : List ℕ → Interval → ℕ → ℕ → Interval
 renormedOn l x r o = let c = leadingZeros 9 r in fetchedOn l x (r * 2 ^ c) o c
@@ -65,12 +65,12 @@ bypassedOn l x c =
     let f = fetchedOn l x (x .range) (x .offset) c in
     record {
       value = f .offset / x .range;
-      next = record { range = x .range; offset = f .offset % x .range; at = f .at };
+      next = record { range = x .range; offset = f .offset % x .range; position = f .position };
     }
 
 -- ---- from a state to an interval and back
 abbrev pub opened : Engine → Interval
-opened e = record { range = e .range; offset = e .offset; at = e .at }
+opened e = record { range = e .range; offset = e .offset; position = e .position }
 
 -- e is the state that the interval was opened from; the place has run on past the end by as many bits as were drawn there
 unfoldable pub settled : List ℕ → Engine → Interval → Engine
@@ -78,7 +78,7 @@ settled l e x =
     record {
       range = x .range;
       offset = x .offset;
-      at = record { 0 = min (placeOf x) (ends l) };
+      position = record { 0 = min (placeOf x) (ends l) };
       ended = e .ended;
       past = added (e .past) (placeOf x - ends l);
     }

@@ -53,7 +53,7 @@ module _ (l : List ℕ) (x : Interval) (r o : ℕ) (h : Renorms l x r o) where
   offset-small = omega (arith, range-small, mul-le-mul-right (2 ^ shift) (h .below))
 
   pub renormed-code : (v : ℕ) (at : BitPlace) → v ≡ bits l (placeOf x) shift → at .0 ≡ ranOn l (placeOf x) shift
-      → _≡_ {A = Interval} (record { range = (r * 2 ^ shift) % 4294967296; offset = (o * 2 ^ shift) % 4294967296 + v; at = at }) (renormedOn l x r o)
+      → _≡_ {A = Interval} (record { range = (r * 2 ^ shift) % 4294967296; offset = (o * 2 ^ shift) % 4294967296 + v; position = at }) (renormedOn l x r o)
   unfolding fetchedOn
   renormed-code v at p q =
       let s = shift-is in

@@ -18,14 +18,14 @@ use Rattle.bins.specs.EngineRuns.{stateOf, Inside, run-local}
 
 -- the state with n added to its total
 abbrev pub raised : ℕ → Engine → Engine
-raised n e = record { range = e .range; offset = e .offset; at = e .at; ended = e .ended; past = added n (e .past) }
+raised n e = record { range = e .range; offset = e .offset; position = e .position; ended = e .ended; past = added n (e .past) }
 
 abbrev pub raisedReading : ℕ → Reading → Reading
 raisedReading n r = record { engine = raised n (r .engine); contexts = r .contexts }
 
 -- the state with no total
 abbrev pub unmarked : Engine → Engine
-unmarked e = record { range = e .range; offset = e .offset; at = e .at; ended = e .ended; past = 0 }
+unmarked e = record { range = e .range; offset = e .offset; position = e .position; ended = e .ended; past = 0 }
 
 added-under : (n a b : ℕ) → added (added n a) b ≡ added n (added a b)
 added-under n a b = added-add n a b ∙ stops (a + b)
@@ -37,7 +37,7 @@ fetched-raised : (l : List ℕ) (n : ℕ) (e : Engine) (r o c : ℕ) → fetched
 unfolding fetched
 fetched-raised l n e r o c =
     ap
-    (λ (k : ℕ). record { range = r; offset = o * 2 ^ c + bits l (place e) c; at = record { 0 = after l (place e) c }; ended = e .ended; past = k })
+    (λ (k : ℕ). record { range = r; offset = o * 2 ^ c + bits l (place e) c; position = record { 0 = after l (place e) c }; ended = e .ended; past = k })
     (added-under n (e .past) (over l (place e) c))
 
 decided-raised : (l : List ℕ) (n : ℕ) (e : Engine) (ctx : ℕ)
@@ -52,7 +52,7 @@ bypassed-raised : (l : List ℕ) (n : ℕ) (e : Engine) (c : ℕ)
     → bypassed l (raised n e) c ≡ record { value = bypassed l e c .value; next = raised n (bypassed l e c .next) }
 unfolding bypassed
 bypassed-raised l n e c =
-    ap (λ (f : Engine). record { value = f .offset / e .range; next = record { range = e .range; offset = f .offset % e .range; at = f .at; ended = e .ended; past = f .past } })
+    ap (λ (f : Engine). record { value = f .offset / e .range; next = record { range = e .range; offset = f .offset % e .range; position = f .position; ended = e .ended; past = f .past } })
     (fetched-raised l n e (e .range) (e .offset) c)
 
 align-raised : (n : ℕ) (r : Reading) (b : Bool)
@@ -81,8 +81,8 @@ run-raised l n t r = run-follows (byEngine l) (byEngine l) (raisedReading n) Any
 raised-back : (e : Engine) → e .past ≤ pastMost → raised (e .past) (unmarked e) ≡ e
 raised-back e h =
     let q : added (e .past) 0 ≡ e .past = omega arith in
-    let w : raised (e .past) (unmarked e) ≡ record { range = e .range; offset = e .offset; at = e .at; ended = e .ended; past = e .past } =
-    ap (λ (k : ℕ). record { range = e .range; offset = e .offset; at = e .at; ended = e .ended; past = k }) q in
+    let w : raised (e .past) (unmarked e) ≡ record { range = e .range; offset = e .offset; position = e .position; ended = e .ended; past = e .past } =
+    ap (λ (k : ℕ). record { range = e .range; offset = e .offset; position = e .position; ended = e .ended; past = k }) q in
     w
 
 -- ---- a run depends on no bit behind those that it drew, whatever the total was: the run on l, from no total, drew none past the end

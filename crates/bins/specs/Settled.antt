@@ -26,7 +26,7 @@ unfolding settled
 settled-opened l e h k =
     let a : min (place e) (ends l) ≡ place e = omega arith in
     let p : added (e .past) (place e - ends l) ≡ e .past = omega arith in
-    let q : settled l e (opened e) ≡ record { range = e .range; offset = e .offset; at = record { 0 = place e }; ended = e .ended; past = e .past } = cc in
+    let q : settled l e (opened e) ≡ record { range = e .range; offset = e .offset; position = record { 0 = place e }; ended = e .ended; past = e .past } = cc in
     q
 
 -- ---- one fetch
@@ -70,7 +70,7 @@ pub settled-bypassed : (l : List ℕ) (e : Engine) (x : Interval) (c : ℕ)
     → bypassed l (settled l e x) c ≡ record { value = bypassedOn l x c .value; next = settled l e (bypassedOn l x c .next) }
 unfolding bypassed bypassedOn settled
 settled-bypassed l e x c =
-    ap (λ (f : Engine). record { value = f .offset / x .range; next = record { range = x .range; offset = f .offset % x .range; at = f .at; ended = e .ended; past = f .past } })
+    ap (λ (f : Engine). record { value = f .offset / x .range; next = record { range = x .range; offset = f .offset % x .range; position = f .position; ended = e .ended; past = f .past } })
     (settled-fetched l e x (x .range) (x .offset) c)
 
 -- ---- the runs
@@ -84,7 +84,7 @@ unfolding engineAlign alignFrom settled rangeAligned
 align-seen l e r = go (ltb (r .interval .offset) 256)
   where
     go : (b : Bool) → cond b (took false (record { engine = rangeAligned (settled l e (r .interval)); contexts = r .contexts })) (refused 7)
-        ≡ mapTook (seen l e) (withContexts (r .contexts) (cond b (took false (record { range = 256; offset = r .interval .offset; at = r .interval .at })) (refused 7)))
+        ≡ mapTook (seen l e) (withContexts (r .contexts) (cond b (took false (record { range = 256; offset = r .interval .offset; position = r .interval .position })) (refused 7)))
     go true = refl
     go false = refl
 

@@ -70,9 +70,9 @@ module _ (l : List ℕ) (x : Interval) where
       let o : (x .offset * 2 ^ 0 + bits l (placeOf x) 0) % x .range ≡ x .offset = ap (λ (k : ℕ). k % x .range) z ∙ mod-eq-of-lt (h .below) in
       let p : placeOf x ≡ ranOn l (placeOf x) 0 = omega (arith, h .fits) in
       rw e
-      (ap (λ (k : ℕ). step.Bin 0 (record { range = x .range; offset = x .offset; at = record { 0 = k } })) p
-      ∙ ap (λ (k : ℕ). step.Bin 0 (record { range = x .range; offset = k; at = record { 0 = ranOn l (placeOf x) 0 } })) (sym o)
-      ∙ ap (λ (k : ℕ). step.Bin k (record { range = x .range; offset = (x .offset * 2 ^ 0 + bits l (placeOf x) 0) % x .range; at = record { 0 = ranOn l (placeOf x) 0 } })) (sym v))
+      (ap (λ (k : ℕ). step.Bin 0 (record { range = x .range; offset = x .offset; position = record { 0 = k } })) p
+      ∙ ap (λ (k : ℕ). step.Bin 0 (record { range = x .range; offset = k; position = record { 0 = ranOn l (placeOf x) 0 } })) (sym o)
+      ∙ ap (λ (k : ℕ). step.Bin k (record { range = x .range; offset = (x .offset * 2 ^ 0 + bits l (placeOf x) 0) % x .range; position = record { 0 = ranOn l (placeOf x) 0 } })) (sym v))
 
   pub bits-listed : (s : Bool) (n : ℕ) (r : Step) → s ≡ true → r ≡ stepOfBits (entriesOn l n 0 x) → r ≡ stepOfBits (bitsFrom s l n x)
   unfolding bitsFrom
@@ -97,7 +97,7 @@ module _ (l : List ℕ) (x : Interval) where
   align-refused false q h = rw (le-ltb (x .offset) 256 h)
 
   pub align-taken : (s : Bool) → s ≡ false → x .offset < 256
-      → step.Bin 0 (record { range = 256; offset = x .offset; at = x .at }) ≡ stepOf (alignFrom s l x)
+      → step.Bin 0 (record { range = 256; offset = x .offset; position = x .position }) ≡ stepOf (alignFrom s l x)
   unfolding alignFrom
   align-taken true q h = let z : _≡_ {A = ℕ} 0 1 = cc in absurd (omega arith)
   align-taken false q h = rw (lt-ltb (x .offset) 256 h)

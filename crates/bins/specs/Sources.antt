@@ -25,7 +25,7 @@ stepOfBits (Out.no n x) = step.Refused n
 
 -- ---- a list, by the place of its next byte: an entry is two
 abbrev pub behind : Interval → Interval
-behind x = record { range = x .range; offset = x .offset; at = record { 0 = placeOf x + 2 } }
+behind x = record { range = x .range; offset = x .offset; position = record { 0 = placeOf x + 2 } }
 
 -- an entry as the code has it: the two bytes at place i as a number
 pub record Tagged (l : List ℕ) (i t : ℕ) : Type 0 where
@@ -61,7 +61,7 @@ unfoldable pub alignFrom : Bool → List ℕ → Interval → Took Interval
 unfolding entryAlign
 alignFrom true l x = entryAlign l x
 alignFrom false l x =
-    cond (ltb (x .offset) 256) (took false (record { range = 256; offset = x .offset; at = x .at })) (refused 7)
+    cond (ltb (x .offset) 256) (took false (record { range = 256; offset = x .offset; position = x .position })) (refused 7)
 
 -- ---- the source
 pub record Cursor : Type 0 where

@@ -25,7 +25,7 @@ fn next_entry(x: Interval) -> Interval
     Interval {
         range: x.range,
         offset: x.offset,
-        at: BitPlace(x.at.0 + 2),
+        position: BitPlace(x.position.0 + 2),
     }
 }
 
@@ -44,7 +44,7 @@ pub fn bin(bytes: &[u8], number: u32, x: Interval) -> Step
     requires { ⌜ (placeOf x ≤ length (now bytes)) × (number < 32768) ⌝ }
     ensures { λ r. ⌜ r ≡ stepOf (entryBin (now (bytes .entry)) number x) ⌝ }
 {
-    let at = x.at;
+    let at = x.position;
     let place = entry_at(at);
     let i = place.0;
     if i + 1 < bytes.len() {
@@ -61,7 +61,7 @@ pub fn align(bytes: &[u8], x: Interval) -> Step
     requires { ⌜ placeOf x ≤ length (now bytes) ⌝ }
     ensures { λ r. ⌜ r ≡ stepOf (entryAlign (now (bytes .entry)) x) ⌝ }
 {
-    let at = x.at;
+    let at = x.position;
     let place = entry_at(at);
     let i = place.0;
     if i + 1 < bytes.len() {

@@ -15,13 +15,13 @@ pub fn renorm(bytes: &[u8], x: Interval, range: u32, offset: u32) -> Interval
     ensures { λ r. ⌜ r ≡ renormedOn (now (bytes .entry)) x range offset ⌝ }
 {
     let shift = u32::leading_zeros(range) - 23;
-    let at = x.at;
+    let at = x.position;
     let drawn = draw(bytes, at, shift);
     let next = drawn.next;
     Interval {
         range: range << shift,
         offset: (offset << shift) + drawn.bits,
-        at: next,
+        position: next,
     }
 }
 
@@ -70,7 +70,7 @@ pub fn bypass_one(bytes: &[u8], x: Interval) -> Taken
     ensures { λ r. ⌜ r ≡ bypassedOn (now (bytes .entry)) x 1 ⌝ }
 {
     let range = x.range;
-    let at = x.at;
+    let at = x.position;
     let drawn = draw(bytes, at, 1);
     let offset = x.offset * 2 + drawn.bits;
     let next = drawn.next;
@@ -81,7 +81,7 @@ pub fn bypass_one(bytes: &[u8], x: Interval) -> Taken
         next: Interval {
             range,
             offset: kept,
-            at: next,
+            position: next,
         },
     }
 }
@@ -92,7 +92,7 @@ pub fn bypass_few(bytes: &[u8], x: Interval, n: u32) -> Taken
     ensures { λ r. ⌜ r ≡ bypassedOn (now (bytes .entry)) x n ⌝ }
 {
     let range = x.range;
-    let at = x.at;
+    let at = x.position;
     let drawn = draw(bytes, at, n);
     let whole = (x.offset << n) + drawn.bits;
     let next = drawn.next;
@@ -101,7 +101,7 @@ pub fn bypass_few(bytes: &[u8], x: Interval, n: u32) -> Taken
         next: Interval {
             range,
             offset: whole % range,
-            at: next,
+            position: next,
         },
     }
 }

@@ -6,7 +6,7 @@ ghost use mathlib.Core.Path.{_≡_};
 pub struct Engine {
     pub range: u32,
     pub offset: u32,
-    pub at: BitPlace,
+    pub position: BitPlace,
     pub ended: bool,
     pub past: u32,
 }
@@ -15,7 +15,7 @@ pub struct Engine {
 pub struct Interval {
     pub range: u32,
     pub offset: u32,
-    pub at: BitPlace,
+    pub position: BitPlace,
 }
 
 // Bins as a number, and the state behind them.

@@ -63,11 +63,11 @@ pub fn align_bypass(list: bool, bytes: &[u8], x: Interval) -> Step
     if list {
         return list::align(bytes, x);
     }
-    let at = x.at;
+    let at = x.position;
     let offset = x.offset;
     let range = 256;
     if range <= offset {
         return Step::Refused(7);
     }
-    Step::Bin(0, Interval { range, offset, at })
+    Step::Bin(0, Interval { range, offset, position: at })
 }

@@ -42,14 +42,14 @@ engineOf s =
     record {
       range = s .range;
       offset = s .offset;
-      at = record { 0 = s .position };
+      position = record { 0 = s .position };
       ended = isSet (s .ended);
       past = s .past;
     }
 
 abbrev pub stateOf : Engine → EngineState
 stateOf e =
-    record { range = e .range; offset = e .offset; position = e .at .0; ended = bitNo (e .ended); past = e .past }
+    record { range = e .range; offset = e .offset; position = e .position .0; ended = bitNo (e .ended); past = e .past }
 
 -- where there is no state to hand back
 abbrev pub noState : EngineState
@@ -67,8 +67,8 @@ paramsOf p =
       lossless = isSet (p .lossless);
       persistent = isSet (p .persistent);
       «skip_context» = isSet (p .«skip_context»);
-      explicit = isSet (p .«explicit_rdpcm»);
-      implicit = isSet (p .«implicit_rdpcm»);
+      «explicit_rdpcm» = isSet (p .«explicit_rdpcm»);
+      «implicit_rdpcm» = isSet (p .«implicit_rdpcm»);
       inter = isSet (p .inter);
       aligning = isSet (p .aligning);
       extended = isSet (p .extended);

@@ -111,7 +111,7 @@ pub fn engine_of(s: EngineState) -> Engine
     Engine {
         range: s.range,
         offset: s.offset,
-        at,
+        position: at,
         ended: is_set(s.ended),
         past: s.past,
     }
@@ -123,7 +123,7 @@ pub fn state_of(e: Engine) -> EngineState
     EngineState {
         range: e.range,
         offset: e.offset,
-        position: e.at.0,
+        position: e.position.0,
         ended: flag_byte(e.ended),
         past: e.past,
     }
@@ -142,8 +142,8 @@ pub fn params_of(p: BlockParams) -> Params
         lossless: is_set(p.lossless),
         persistent: is_set(p.persistent),
         skip_context: is_set(p.skip_context),
-        explicit: is_set(p.explicit_rdpcm),
-        implicit: is_set(p.implicit_rdpcm),
+        explicit_rdpcm: is_set(p.explicit_rdpcm),
+        implicit_rdpcm: is_set(p.implicit_rdpcm),
         inter: is_set(p.inter),
         aligning: is_set(p.aligning),
         extended: is_set(p.extended),

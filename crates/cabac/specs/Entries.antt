@@ -43,7 +43,7 @@ behindFetch l e r o d =
     record {
       range = r;
       offset = o;
-      at = record { 0 = min (d .next .0) (ends l) };
+      position = record { 0 = min (d .next .0) (ends l) };
       ended = e .ended;
       past = added (e .past) (d .past);
     }

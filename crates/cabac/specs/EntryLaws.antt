@@ -73,13 +73,13 @@ inited-all values cs q i h g n =
 
 -- ---- cut to the end
 pub settle-code : (l : List ℕ) (e : Engine) (x : Interval) (at : BitPlace) (n : ℕ) → at .0 ≡ min (placeOf x) (ends l) → n ≡ added (e .past) (placeOf x - ends l)
-    → _≡_ {A = Engine} (record { range = x .range; offset = x .offset; at = at; ended = e .ended; past = n }) (settled l e x)
+    → _≡_ {A = Engine} (record { range = x .range; offset = x .offset; position = at; ended = e .ended; past = n }) (settled l e x)
 unfolding settled
 settle-code l e x at n p q =
     let w : at ≡ record { 0 = min (placeOf x) (ends l) } = ap (λ (k : ℕ). record { 0 = k }) p in cc
 
 pub behind-code : (l : List ℕ) (e : Engine) (r o : ℕ) (d : fetch.Drawn) (at : BitPlace) (n : ℕ) → at .0 ≡ min (d .next .0) (ends l) → n ≡ added (e .past) (d .past)
-    → _≡_ {A = Engine} (record { range = r; offset = o; at = at; ended = e .ended; past = n }) (behindFetch l e r o d)
+    → _≡_ {A = Engine} (record { range = r; offset = o; position = at; ended = e .ended; past = n }) (behindFetch l e r o d)
 behind-code l e r o d at n p q =
     let w : at ≡ record { 0 = min (d .next .0) (ends l) } = ap (λ (k : ℕ). record { 0 = k }) p in cc
 
@@ -129,7 +129,7 @@ module _ (l : List ℕ) (e : Engine) where
       (or-else-rest 7 (endedRefusal e) (alignmentRefusal e) (ended-not e k) (alignment-high e h))) (λ z. omega arith)
 
   pub align-bypass-yes : 0 ≡ (payloadRefusal l orElse stateRefusal l e) → e .ended ≡ false → e .offset < 256
-      → accepted (record { range = 256; offset = e .offset; at = e .at; ended = e .ended; past = e .past }) ≡ alignBypass l e
+      → accepted (record { range = 256; offset = e .offset; position = e .position; ended = e .ended; past = e .past }) ≡ alignBypass l e
   unfolding alignBypass rangeAligned
   align-bypass-yes q k h =
       unless-yes _ _ (rangeAligned e) (first-passed 0 (endedRefusal e orElse alignmentRefusal e) q
@@ -152,7 +152,7 @@ module _ (l : List ℕ) (e : Engine) where
   byte-align-no n q h = unless-no n _ (byteAligned e) q h
 
   pub byte-align-yes : (p : BitPlace) → 0 ≡ (payloadRefusal l orElse stateRefusal l e) → p .0 ≡ alignedByte e * 8
-      → accepted (record { range = e .range; offset = e .offset; at = p; ended = e .ended; past = e .past }) ≡ byteAlign l e
+      → accepted (record { range = e .range; offset = e .offset; position = p; ended = e .ended; past = e .past }) ≡ byteAlign l e
   unfolding byteAlign byteAligned
   byte-align-yes p q h =
       let w : p ≡ record { 0 = alignedByte e * 8 } = ap (λ (k : ℕ). record { 0 = k }) h in
@@ -193,7 +193,7 @@ module _ (l : List ℕ) (e : Engine) where
 
   -- x is where it starts, and o what that answers
   pub restart-yes : (o : Answer Engine) (x : Engine) → 0 ≡ (payloadRefusal l orElse stateRefusal l e)
-      → x ≡ record { range = 510; offset = 0; at = record { 0 = alignedByte e * 8 }; ended = false; past = e .past }
+      → x ≡ record { range = 510; offset = 0; position = record { 0 = alignedByte e * 8 }; ended = false; past = e .past }
       → o ≡ startedAt l x → o ≡ restart l e
   unfolding restart restarted startedAt
   restart-yes o x q w r =
@@ -295,7 +295,7 @@ module _ (l : List ℕ) (e : Engine) where
   terminate-ended q k = unless-no 6 _ (terminated l e) (first-passed 6 (endedRefusal e) q (ended-is e k)) (λ z. omega arith)
 
   pub terminate-one : 0 ≡ (payloadRefusal l orElse stateRefusal l e) → e .ended ≡ false → e .range - 2 ≤ e .offset
-      → accepted (record { value = 1; next = record { range = e .range - 2; offset = e .offset; at = e .at; ended = true; past = e .past } }) ≡ terminate l e
+      → accepted (record { value = 1; next = record { range = e .range - 2; offset = e .offset; position = e .position; ended = true; past = e .past } }) ≡ terminate l e
   unfolding terminate terminated
   terminate-one q k h =
       unless-yes _ _ (terminated l e) (first-passed 0 (endedRefusal e) q (ended-not e k)) (rw (le-ltb (e .offset) (e .range - 2) h) (unfold terminatedBy in refl))
@@ -337,7 +337,7 @@ unfolding start
 start-no l n q h = unless-no n _ (started l) (or-else-first n (payloadRefusal l) (offsetRefusal (started l)) q h) h
 
 pub start-yes : (l : List ℕ) (o : Answer Engine) → 0 ≡ payloadRefusal l
-    → o ≡ startedAt l (record { range = 510; offset = 0; at = record { 0 = 0 }; ended = false; past = 0 }) → o ≡ start l
+    → o ≡ startedAt l (record { range = 510; offset = 0; position = record { 0 = 0 }; ended = false; past = 0 }) → o ≡ start l
 unfolding start started startedAt
 start-yes l o q r =
     r ∙ ap (λ n. unless n (started l)) (or-else-rest (offsetRefusal (started l)) (payloadRefusal l) (offsetRefusal (started l)) q refl)

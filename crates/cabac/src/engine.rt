@@ -54,7 +54,7 @@ pub fn state_refusal(bytes: &[u8], e: Engine) -> u32
     requires { ⌜ length (now bytes) ≤ 16777216 ⌝ }
     ensures { λ r. ⌜ r ≡ stateRefusal (now (bytes .entry)) e ⌝ }
 {
-    let at = e.at.0;
+    let at = e.position.0;
     if 8 * bytes.len() < at {
         return 3;
     }
@@ -105,11 +105,11 @@ fn count_refusal(bytes: &[u8], e: Engine, count: u32) -> u32
 pub fn open(e: Engine) -> Interval
     ensures { λ r. ⌜ r ≡ opened e ⌝ }
 {
-    let at = e.at;
+    let at = e.position;
     Interval {
         range: e.range,
         offset: e.offset,
-        at,
+        position: at,
     }
 }
 
@@ -150,13 +150,13 @@ pub fn settle(bytes: &[u8], e: Engine, x: Interval) -> Engine
     requires { ⌜ length (now bytes) ≤ 16777216 ⌝ }
     ensures { λ r. ⌜ r ≡ settled (now (bytes .entry)) e x ⌝ }
 {
-    let ran = x.at;
+    let ran = x.position;
     let past = added_to(e.past, ran_past(bytes, ran));
     let at = cut(bytes, ran);
     Engine {
         range: x.range,
         offset: x.offset,
-        at,
+        position: at,
         ended: e.ended,
         past,
     }
@@ -173,7 +173,7 @@ fn behind(bytes: &[u8], e: Engine, range: u32, offset: u32, d: Drawn) -> Engine
     Engine {
         range,
         offset,
-        at,
+        position: at,
         ended: e.ended,
         past,
     }
@@ -199,7 +199,7 @@ pub fn start(bytes: &[u8]) -> State
     let e = Engine {
         range: 510,
         offset: 0,
-        at: BitPlace(0),
+        position: BitPlace(0),
         ended: false,
         past: 0,
     };
@@ -211,7 +211,7 @@ fn started_at(bytes: &[u8], e: Engine) -> State
     requires { ⌜ (place e ≤ ends (now bytes)) × (length (now bytes) ≤ 16777216) ⌝ }
     ensures { λ r. ⌜ stateSays r ≡ entries.startedAt (now (bytes .entry)) e ⌝ }
 {
-    let at = e.at;
+    let at = e.position;
     let nine = fetch(bytes, at, 9);
     let offset = nine.bits;
     if 510 <= offset {
@@ -285,14 +285,14 @@ pub fn decode_terminate(bytes: &[u8], e: Engine) -> Bins
     }
     let range = e.range - 2;
     let offset = e.offset;
-    let at = e.at;
+    let at = e.position;
     if range <= offset {
         return Bins::Read(
             1,
             Engine {
                 range,
                 offset,
-                at,
+                position: at,
                 ended: true,
                 past: e.past,
             },
@@ -317,11 +317,11 @@ pub fn align_bypass(bytes: &[u8], e: Engine) -> State
     if 256 <= e.offset {
         return State::Refused(7);
     }
-    let at = e.at;
+    let at = e.position;
     let state = Engine {
         range: 256,
         offset: e.offset,
-        at,
+        position: at,
         ended: e.ended,
         past: e.past,
     };
@@ -336,13 +336,13 @@ pub fn byte_align(bytes: &[u8], e: Engine) -> State
     if n != 0 {
         return State::Refused(n);
     }
-    let at = e.at;
+    let at = e.position;
     let byte = aligned(at);
     let place = first_bit(byte);
     State::Ready(Engine {
         range: e.range,
         offset: e.offset,
-        at: place,
+        position: place,
         ended: e.ended,
         past: e.past,
     })
@@ -357,7 +357,7 @@ pub fn rest(bytes: &[u8], e: Engine) -> &[u8]
         let end = bytes.len();
         return &bytes[end..];
     }
-    let at = e.at;
+    let at = e.position;
     let byte = aligned(at);
     let first = byte.0;
     &bytes[first..]
@@ -371,13 +371,13 @@ pub fn restart(bytes: &[u8], e: Engine) -> State
     if n != 0 {
         return State::Refused(n);
     }
-    let at = e.at;
+    let at = e.position;
     let byte = aligned(at);
     let place = first_bit(byte);
     let fresh = Engine {
         range: 510,
         offset: 0,
-        at: place,
+        position: place,
         ended: false,
         past: e.past,
     };
@@ -392,7 +392,7 @@ pub fn read_bits(bytes: &[u8], e: Engine, count: u32) -> Bins
     if n != 0 {
         return Bins::Refused(n);
     }
-    let at = e.at;
+    let at = e.position;
     let drawn = fetch(bytes, at, count);
     let value = drawn.bits;
     Bins::Read(value, behind(bytes, e, e.range, e.offset, drawn))

@@ -32,7 +32,7 @@ pub fn state(s: &[u8], at: usize, f: &[u8], value: u32, e: Engine, context: u8) 
         value as u64,
         e.range as u64,
         e.offset as u64,
-        e.at.0 as u64,
+        e.position.0 as u64,
         e.ended as u64,
         e.past as u64,
         context as u64,
@@ -73,7 +73,7 @@ fn decision(s: &[u8], at: usize, r: Decision) -> usize {
 fn aligned(s: &[u8], at: usize, bytes: &[u8], left: &[u8], r: State) -> usize {
     match r {
         State::Ready(e) => {
-            let from = e.at.0 / 8;
+            let from = e.position.0 / 8;
             let head = answer::text(s, at, b"answer=0 rest=");
             let key = answer::decimal(s, head, from as u64);
             let to = state(s, key, b" state=$1,$2,$3,$4,$5", 0, e, 0);

@@ -156,7 +156,7 @@ pub fn state(s: &[u8], bytes: &[u8]) -> Handed {
         return Handed::Is(Engine {
             range: n[0],
             offset: n[1],
-            at: BitPlace(at),
+            position: BitPlace(at),
             ended: n[3] == 1,
             past: n[4],
         });
@@ -192,8 +192,8 @@ fn params_of(n: &[u32; 14]) -> Params {
         lossless: n[5] == 1,
         persistent: n[6] == 1,
         skip_context: n[7] == 1,
-        explicit: n[8] == 1,
-        implicit: n[9] == 1,
+        explicit_rdpcm: n[8] == 1,
+        implicit_rdpcm: n[9] == 1,
         inter: n[10] == 1,
         aligning: n[11] == 1,
         extended: n[12] == 1,

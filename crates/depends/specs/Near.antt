@@ -75,7 +75,7 @@ bypassed-near : (l m : List ℕ) (p : ℕ) (e : Engine) (c : ℕ) → place e �
 unfolding bypassed
 bypassed-near l m p e c h from s =
     let q = fetched-near l m p e (e .range) (e .offset) c h from (record { has = s .has; same = s .same; drew = s .drew }) in
-    ap (λ (f : Engine). record { value = f .offset / e .range; next = record { range = e .range; offset = f .offset % e .range; at = f .at; ended = e .ended; past = f .past } }) q
+    ap (λ (f : Engine). record { value = f .offset / e .range; next = record { range = e .range; offset = f .offset % e .range; position = f .position; ended = e .ended; past = f .past } }) q
 
 align-near : {A : Type 0} (l m : List ℕ) (p : ℕ) (r r′ : Reading) (b : Bool) (k g : Bool → Reading → Out Reading A)
     → (Near l m p (stateOf (k false r′) .engine) → k false r′ ≡ g false r′)
@@ -122,7 +122,7 @@ raised-again : (r : Reading) → r .engine .past ≤ pastMost → raisedReading 
 raised-again r h =
     let q : added (r .engine .past) 0 ≡ r .engine .past = omega arith in
     ap (λ (k : ℕ). record {
-      engine = record { range = r .engine .range; offset = r .engine .offset; at = r .engine .at; ended = r .engine .ended; past = k };
+      engine = record { range = r .engine .range; offset = r .engine .offset; position = r .engine .position; ended = r .engine .ended; past = k };
       contexts = r .contexts;
     }) q
 

@@ -43,8 +43,8 @@ pub params-is : (bytes : List ℕ) (a b c : ℕ) → a ≡ getD bytes 0 0 → b 
       lossless = false;
       persistent = false;
       «skip_context» = false;
-      explicit = false;
-      implicit = false;
+      «explicit_rdpcm» = false;
+      «implicit_rdpcm» = false;
       inter = false;
       aligning = false;
       extended = false;

@@ -113,13 +113,13 @@ pub fn read_bins(bytes: &[u8], block: &mut [i32]) -> ReadList
     let front = Interval {
         range: 256,
         offset: 0,
-        at: BitPlace(0),
+        position: BitPlace(0),
     };
     let r = read_into(true, &mut contexts, bytes, block, front);
     let Step::Bin(greatest, x) = r else {
         return ReadList::Refused(step_refusal(r));
     };
-    let at = x.at;
+    let at = x.position;
     if at.0 != bytes.len() {
         let zeros = [0i32; 16];
         copy(block, &zeros);

@@ -30,10 +30,10 @@ use Rattle.hevc_cross.specs.Entries.{componentRefusal, scaleRefusal, Pay
 
 -- running, at a bit place, with so many bits past the end
 at : ℕ → ℕ → ℕ → ℕ → Engine
-at range offset position past = record { range = range; offset = offset; at = record { 0 = position }; ended = false; past = past }
+at range offset position past = record { range = range; offset = offset; position = record { 0 = position }; ended = false; past = past }
 
 ended : Engine
-ended = record { range = 1; offset = 1; at = record { 0 = 1 }; ended = true; past = 0 }
+ended = record { range = 1; offset = 1; position = record { 0 = 1 }; ended = true; past = 0 }
 
 pub data Case : Type 0 where
   bothWays : ℕ → ℤ → List ℕ → Case  -- component, scale, list: written as it, read as it
@@ -149,8 +149,8 @@ plain =
       lossless = false;
       persistent = false;
       «skip_context» = false;
-      explicit = false;
-      implicit = false;
+      «explicit_rdpcm» = false;
+      «implicit_rdpcm» = false;
       inter = false;
       aligning = false;
       extended = false;

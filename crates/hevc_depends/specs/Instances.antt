@@ -41,8 +41,8 @@ params aligning =
       lossless = false;
       persistent = false;
       «skip_context» = false;
-      explicit = false;
-      implicit = false;
+      «explicit_rdpcm» = false;
+      «implicit_rdpcm» = false;
       inter = false;
       aligning = aligning;
       extended = false;
@@ -77,7 +77,7 @@ pub record Facts : Type 0 where
 
 -- a state fresh from start, but for its total
 abbrev pub from : ℕ → List ℕ → Engine
-from t l = record { range = started l .range; offset = started l .offset; at = started l .at; ended = started l .ended; past = t }
+from t l = record { range = started l .range; offset = started l .offset; position = started l .position; ended = started l .ended; past = t }
 
 pub facts : ℕ → Bool → List ℕ → List ℕ → Facts
 unfolding params contexts stats lent numberOf nextPlace

@@ -98,7 +98,7 @@ pub fn skip_coded(p: Params) -> bool
 pub fn rdpcm_coded(p: Params, skip: bool) -> bool
     ensures { λ r. ⌜ r ≡ rdpcmCoded p skip ⌝ }
 {
-    if p.explicit {
+    if p.explicit_rdpcm {
         if p.inter {
             if skip {
                 return true;

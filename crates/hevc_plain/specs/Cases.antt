@@ -43,15 +43,15 @@ asked log2 scan depth persistent =
       lossless = false;
       persistent = persistent;
       «skip_context» = false;
-      explicit = false;
-      implicit = false;
+      «explicit_rdpcm» = false;
+      «implicit_rdpcm» = false;
       inter = false;
       aligning = false;
       extended = false;
     }
 
 at : ℕ → ℕ → ℕ → Engine
-at range offset position = record { range = range; offset = offset; at = record { 0 = position }; ended = false; past = 0 }
+at range offset position = record { range = range; offset = offset; position = record { 0 = position }; ended = false; past = 0 }
 
 pub data Case : Type 0 where
   payloadCase : List ℕ → Engine → List ℕ → Params → ℕ → Case  -- payload, state, statistics, parameters, number given

@@ -19,7 +19,7 @@ unfoldable pub plainParams : Params → Bool
 plainParams p =
     eqb (p .depth) 8
     && ((eqb (p .scan) 0 || leb (p .log2) 3)
-    && not (p .persistent || (p .«skip_context» || (p .explicit || (p .implicit || (p .aligning || p .extended))))))
+    && not (p .persistent || (p .«skip_context» || (p .«explicit_rdpcm» || (p .«implicit_rdpcm» || (p .aligning || p .extended))))))
 
 -- the statistics are 0
 unfoldable pub zeros : List ℕ → Bool
@@ -67,8 +67,8 @@ plainOf log2 luma scan hiding skipAllowed lossless inter =
       lossless = lossless;
       persistent = false;
       «skip_context» = false;
-      explicit = false;
-      implicit = false;
+      «explicit_rdpcm» = false;
+      «implicit_rdpcm» = false;
       inter = inter;
       aligning = false;
       extended = false;

@@ -56,7 +56,7 @@ above-zeros (s ∷ l) = go (ltb 0 s) refl (above-zeros l)
 
 module _ (p : Params) (stats : List ℕ) where
   abbrev options : Bool
-  options = p .persistent || (p .«skip_context» || (p .explicit || (p .implicit || (p .aligning || p .extended))))
+  options = p .persistent || (p .«skip_context» || (p .«explicit_rdpcm» || (p .«implicit_rdpcm» || (p .aligning || p .extended))))
 
   pub not-8 : (p .depth ≡ 8 → ⊥) → 24 ≡ plainRefusal p stats
   unfolding plainRefusal plainParams
@@ -93,20 +93,20 @@ module _ (p : Params) (stats : List ℕ) where
   pub is-context : p .«skip_context» ≡ true → 24 ≡ plainRefusal p stats
   is-context q = option-on (or-true (p .persistent) _ (rw q))
 
-  pub is-explicit : p .explicit ≡ true → 24 ≡ plainRefusal p stats
+  pub is-explicit : p .«explicit_rdpcm» ≡ true → 24 ≡ plainRefusal p stats
   is-explicit q = option-on (or-true (p .persistent) _ (or-true (p .«skip_context») _ (rw q)))
 
-  pub is-implicit : p .implicit ≡ true → 24 ≡ plainRefusal p stats
-  is-implicit q = option-on (or-true (p .persistent) _ (or-true (p .«skip_context») _ (or-true (p .explicit) _ (rw q))))
+  pub is-implicit : p .«implicit_rdpcm» ≡ true → 24 ≡ plainRefusal p stats
+  is-implicit q = option-on (or-true (p .persistent) _ (or-true (p .«skip_context») _ (or-true (p .«explicit_rdpcm») _ (rw q))))
 
   pub is-aligning : p .aligning ≡ true → 24 ≡ plainRefusal p stats
-  is-aligning q = option-on (or-true (p .persistent) _ (or-true (p .«skip_context») _ (or-true (p .explicit) _ (or-true (p .implicit) _ (rw q)))))
+  is-aligning q = option-on (or-true (p .persistent) _ (or-true (p .«skip_context») _ (or-true (p .«explicit_rdpcm») _ (or-true (p .«implicit_rdpcm») _ (rw q)))))
 
   pub is-extended : p .extended ≡ true → 24 ≡ plainRefusal p stats
-  is-extended q = option-on (or-true (p .persistent) _ (or-true (p .«skip_context») _ (or-true (p .explicit) _ (or-true (p .implicit) _ (or-true (p .aligning) _ q)))))
+  is-extended q = option-on (or-true (p .persistent) _ (or-true (p .«skip_context») _ (or-true (p .«explicit_rdpcm») _ (or-true (p .«implicit_rdpcm») _ (or-true (p .aligning) _ q)))))
 
   -- the statistics decide, all else being plain
-  module _ (a : p .depth ≡ 8) (b : 0 ≡ scanRefusal p) (c : p .persistent ≡ false) (d : p .«skip_context» ≡ false) (e : p .explicit ≡ false) (f : p .implicit ≡ false) (g : p .aligning ≡ false) (h : p .extended ≡ false) where
+  module _ (a : p .depth ≡ 8) (b : 0 ≡ scanRefusal p) (c : p .persistent ≡ false) (d : p .«skip_context» ≡ false) (e : p .«explicit_rdpcm» ≡ false) (f : p .«implicit_rdpcm» ≡ false) (g : p .aligning ≡ false) (h : p .extended ≡ false) where
     pass : (d : Bool) → _≡_ {A = ℕ} 0 (cond d 0 24) → d ≡ true
     pass true q = refl
     pass false q = absurd (omega arith)

@@ -24,8 +24,8 @@ pub record Plain (p : Params) : Type 0 where
   pub depth : p .depth ≡ 8
   pub persistent : p .persistent ≡ false
   pub context : p .«skip_context» ≡ false
-  pub explicit : p .explicit ≡ false
-  pub implicit : p .implicit ≡ false
+  pub explicit : p .«explicit_rdpcm» ≡ false
+  pub implicit : p .«implicit_rdpcm» ≡ false
   pub aligning : p .aligning ≡ false
   pub extended : p .extended ≡ false
   pub scan : (p .scan ≡ 0 → ⊥) → p .log2 ≤ 3
@@ -55,8 +55,8 @@ plain-passed p stats z =
     let o = not-true _ (b .1) in
     let c = or-false (p .persistent) _ o in
     let d = or-false (p .«skip_context») _ (c .1) in
-    let e = or-false (p .explicit) _ (d .1) in
-    let f = or-false (p .implicit) _ (e .1) in
+    let e = or-false (p .«explicit_rdpcm») _ (d .1) in
+    let f = or-false (p .«implicit_rdpcm») _ (e .1) in
     let g = or-false (p .aligning) _ (f .1) in (
       record {
         depth = eqb-true (p .depth) 8 (a .0);

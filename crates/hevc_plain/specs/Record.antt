@@ -96,8 +96,8 @@ with-all p depth persistent context explicit implicit aligning extended =
       lossless = p .lossless;
       persistent = persistent;
       «skip_context» = context;
-      explicit = explicit;
-      implicit = implicit;
+      «explicit_rdpcm» = explicit;
+      «implicit_rdpcm» = implicit;
       inter = p .inter;
       aligning = aligning;
       extended = extended;
@@ -116,10 +116,10 @@ plain-made p stats block a b =
   where
     as-made : (p : Params) → Plain p → p ≡ plainOf (p .log2) (p .luma) (p .scan) (p .hiding) (p .«skip_allowed») (p .lossless) (p .inter)
     as-made p h =
-        ap (λ (d : ℕ). with-all p d (p .persistent) (p .«skip_context») (p .explicit) (p .implicit) (p .aligning) (p .extended)) (h .depth)
-        ∙ ap (λ (d : Bool). with-all p 8 d (p .«skip_context») (p .explicit) (p .implicit) (p .aligning) (p .extended)) (h .persistent)
-        ∙ ap (λ (d : Bool). with-all p 8 false d (p .explicit) (p .implicit) (p .aligning) (p .extended)) (h .context)
-        ∙ ap (λ (d : Bool). with-all p 8 false false d (p .implicit) (p .aligning) (p .extended)) (h .explicit)
+        ap (λ (d : ℕ). with-all p d (p .persistent) (p .«skip_context») (p .«explicit_rdpcm») (p .«implicit_rdpcm») (p .aligning) (p .extended)) (h .depth)
+        ∙ ap (λ (d : Bool). with-all p 8 d (p .«skip_context») (p .«explicit_rdpcm») (p .«implicit_rdpcm») (p .aligning) (p .extended)) (h .persistent)
+        ∙ ap (λ (d : Bool). with-all p 8 false d (p .«explicit_rdpcm») (p .«implicit_rdpcm») (p .aligning) (p .extended)) (h .context)
+        ∙ ap (λ (d : Bool). with-all p 8 false false d (p .«implicit_rdpcm») (p .aligning) (p .extended)) (h .explicit)
         ∙ ap (λ (d : Bool). with-all p 8 false false false d (p .aligning) (p .extended)) (h .implicit)
         ∙ ap (λ (d : Bool). with-all p 8 false false false false d (p .extended)) (h .aligning)
         ∙ ap (λ (d : Bool). with-all p 8 false false false false false d) (h .extended)

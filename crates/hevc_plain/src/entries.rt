@@ -48,10 +48,10 @@ pub fn plain_refusal(p: Params, stats: &[u8]) -> u32
     if p.skip_context {
         return 24;
     }
-    if p.explicit {
+    if p.explicit_rdpcm {
         return 24;
     }
-    if p.implicit {
+    if p.implicit_rdpcm {
         return 24;
     }
     if p.aligning {

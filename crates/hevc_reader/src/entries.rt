@@ -181,14 +181,14 @@ pub fn read_bins(bytes: &[u8], stats: &mut [u8; 4], p: Params, block: &mut [i32]
     let front = Interval {
         range: 256,
         offset: 0,
-        at: BitPlace(0),
+        position: BitPlace(0),
     };
     let table = decision_table();
     let r = read_into(true, &table, &mut contexts, &mut st, bytes, p, block, front);
     let Blocked::Got(found, x) = r else {
         return ReadList::Refused(blocked_refusal(r));
     };
-    let at = x.at;
+    let at = x.position;
     if at.0 != bytes.len() {
         clear(block, area_of(p.log2));
         return ReadList::Refused(13);

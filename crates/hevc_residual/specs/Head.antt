@@ -22,7 +22,7 @@ abbrev pub skipCoded : Params → Bool
 skipCoded p = p .«skip_allowed» && not (p .lossless)
 
 abbrev pub rdpcmCoded : Params → Bool → Bool
-rdpcmCoded p skip = p .explicit && (p .inter && skipOrBypass p skip)
+rdpcmCoded p skip = p .«explicit_rdpcm» && (p .inter && skipOrBypass p skip)
 
 -- explicit_rdpcm_flag and explicit_rdpcm_dir_flag of each choice (document 01's none, 0, 1), and the choice that they make
 abbrev pub rdpcmFlag : Rdpcm → Bool

@@ -67,7 +67,7 @@ unfoldable pub signHidden : Params → Bool → Rdpcm → List ℕ → Bool
 signHidden p skip rdpcm [] = false
 signHidden p skip rdpcm (k ∷ ks) =
     p .hiding
-    && (ltb 3 (k - lastOf ks k) && (not (p .lossless) && (not (rdpcmFlag rdpcm) && not (skip && p .implicit))))
+    && (ltb 3 (k - lastOf ks k) && (not (p .lossless) && (not (rdpcmFlag rdpcm) && not (skip && p .«implicit_rdpcm»))))
 
 -- coeff_sign_flag as wanted at the first n of the places, as a number behind v
 unfoldable pub signsNo : (ℕ → Wanted → ℤ) → ℕ → List ℕ → Wanted → ℕ → ℕ

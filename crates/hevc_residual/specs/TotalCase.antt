@@ -50,8 +50,8 @@ plain =
       lossless = false;
       persistent = false;
       «skip_context» = false;
-      explicit = false;
-      implicit = false;
+      «explicit_rdpcm» = false;
+      «implicit_rdpcm» = false;
       inter = false;
       aligning = false;
       extended = false;
@@ -61,13 +61,13 @@ abbrev block : List ℤ
 block = replicate 16 (pos 0)
 
 abbrev begun : Engine
-begun = record { range = 510; offset = 234; at = record { 0 = 9 }; ended = false; past = 0 }
+begun = record { range = 510; offset = 234; position = record { 0 = 9 }; ended = false; past = 0 }
 
 abbrev read : FoundAt
 read =
     record {
       found = record { skip = false; rdpcm = ofRdpcm.None; column = 1; row = 1; greatest = 1 };
-      next = record { range = 256; offset = 1; at = record { 0 = 16 }; ended = false; past = 1 };
+      next = record { range = 256; offset = 1; position = record { 0 = 16 }; ended = false; past = 1 };
     }
 
 pub starts : start payload ≡ accepted begun

@@ -11,8 +11,8 @@ pub struct Params {
     pub lossless: bool, // cu_transquant_bypass_flag
     pub persistent: bool, // persistent_rice_adaptation_enabled_flag
     pub skip_context: bool, // transform_skip_context_enabled_flag
-    pub explicit: bool, // explicit_rdpcm_enabled_flag
-    pub implicit: bool, // implicit RDPCM enabled, in an intra block of mode 10 or 26
+    pub explicit_rdpcm: bool, // explicit_rdpcm_enabled_flag
+    pub implicit_rdpcm: bool, // implicit RDPCM enabled, in an intra block of mode 10 or 26
     pub inter: bool, // CuPredMode is MODE_INTER
     pub aligning: bool, // cabac_bypass_alignment_enabled_flag
     pub extended: bool, // extended_precision_processing_flag

@@ -23,7 +23,7 @@ pub record Carries (c : Carry) : Type 0 where
 -- ---- the small functions
 -- whether the sign of the lowest place of s is not coded: nothing rules it out, highest less lowest exceeds 3
 abbrev pub mayHide : Params → Bool → Rdpcm → Bool
-mayHide p skip rdpcm = not (p .lossless) && (not (rdpcmFlag rdpcm) && not (skip && p .implicit))
+mayHide p skip rdpcm = not (p .lossless) && (not (rdpcmFlag rdpcm) && not (skip && p .«implicit_rdpcm»))
 
 abbrev pub isWide : Places → Bool
 isWide s = ltb 3 (s .list % 16 - lastOf (unpack (s .list / 16) (s .count - 1)) (s .list % 16))

@@ -78,9 +78,9 @@ fn is_none(r: Rdpcm) -> bool
 }
 
 fn implicit_skip(p: Params, skip: bool) -> bool
-    ensures { λ r. ⌜ r ≡ (skip && p .implicit) ⌝ }
+    ensures { λ r. ⌜ r ≡ (skip && p .«implicit_rdpcm») ⌝ }
 {
-    if skip { p.implicit } else { false }
+    if skip { p.implicit_rdpcm } else { false }
 }
 
 // What rules hiding out in a block: lossless, explicit RDPCM, implicit RDPCM with transform skip.

@@ -110,7 +110,7 @@ pub fn read_scale_bins(bytes: &[u8], component: u32) -> ReadList
     let front = Interval {
         range: 256,
         offset: 0,
-        at: BitPlace(0),
+        position: BitPlace(0),
     };
     let r = crate::syntax::read_scale(
         true,
@@ -123,7 +123,7 @@ pub fn read_scale_bins(bytes: &[u8], component: u32) -> ReadList
     let Scaled::Got(z, x) = r else {
         return ReadList::Refused(scaled_refusal(r));
     };
-    let at = x.at;
+    let at = x.position;
     if at.0 != bytes.len() {
         return ReadList::Refused(13);
     }

@@ -60,8 +60,8 @@ fn params(header: &[u8; 8]) -> Params {
         lossless: false,
         persistent: false,
         skip_context: false,
-        explicit: false,
-        implicit: false,
+        explicit_rdpcm: false,
+        implicit_rdpcm: false,
         inter: false,
         aligning: false,
         extended: false,
@@ -86,7 +86,7 @@ fn ended() -> Engine {
     Engine {
         range: 510,
         offset: 0,
-        at,
+        position: at,
         ended: true,
         past: 0,
     }

@@ -130,7 +130,7 @@ fn past_the_end(bits: u32) {
 // Bits of the payload, of so many bytes; and those past its end.
 pub fn drawn(e: Engine, bytes: usize) {
     write::text(b"bits drawn          ");
-    write::count(e.at.0);
+    write::count(e.position.0);
     write::text(b", of a payload of ");
     write::count(bytes);
     write::line(b" bytes");

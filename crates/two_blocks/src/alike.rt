@@ -23,7 +23,7 @@ fn same_found(a: Found, b: Found) -> bool {
 
 fn same_state(a: Engine, b: Engine) -> bool {
     let marks = (a.ended == b.ended) & (a.past == b.past);
-    marks & (a.range == b.range) & (a.offset == b.offset) & (a.at.0 == b.at.0)
+    marks & (a.range == b.range) & (a.offset == b.offset) & (a.position.0 == b.position.0)
 }
 
 fn same_block(f: Found, e: Engine, other: Read) -> bool {

@@ -28,8 +28,8 @@ fn params() -> Params {
         lossless: false,
         persistent: false,
         skip_context: false,
-        explicit: false,
-        implicit: false,
+        explicit_rdpcm: false,
+        implicit_rdpcm: false,
         inter: false,
         aligning: false,
         extended: false,
@@ -45,7 +45,7 @@ fn show(r: Read) {
             write::text(b", greatest");
             write::spaced(f.greatest);
             write::text(b", position");
-            write::spaced_count(e.at.0);
+            write::spaced_count(e.position.0);
         }
         Read::Refused(n) => {
             write::text(b"number");

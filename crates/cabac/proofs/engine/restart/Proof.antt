@@ -26,7 +26,7 @@ started-at-requires : tie.Need-started-at-requires
 started-at-requires c κs = let a = c .before .before .before .before .before .before .args in let p = passed-fits (a .bytes .now) (a .e) (sym (c .before .before .before .if1 .left) ∙ c .before .before .before .before .refusal .ensures) in (omega (arith, c .first-bit .ensures, c .before .aligned .ensures), p .0)
 
 returns-2 : tie.Need-returns-2
-returns-2 c = let a = c .before .before .before .before .before .before .before .args in restart-yes (a .bytes .now) (a .e) _ _ (sym (c .before .before .before .before .if1 .left) ∙ c .before .before .before .before .before .refusal .ensures) (ap (λ (k : ℕ). record { range = 510; offset = 0; at = record { 0 = k }; ended = false; past = a .e .past }) (omega (arith, c .before .first-bit .ensures, c .before .before .aligned .ensures))) (c .started-at .ensures)
+returns-2 c = let a = c .before .before .before .before .before .before .before .args in restart-yes (a .bytes .now) (a .e) _ _ (sym (c .before .before .before .before .if1 .left) ∙ c .before .before .before .before .before .refusal .ensures) (ap (λ (k : ℕ). record { range = 510; offset = 0; position = record { 0 = k }; ended = false; past = a .e .past }) (omega (arith, c .before .first-bit .ensures, c .before .before .aligned .ensures))) (c .started-at .ensures)
 
 pub restart-spec : {M : Type 1} → statement M
 restart-spec =

@@ -17,7 +17,7 @@ use Rattle.h264_reader.proofs.entries.block_refusal.Reads as block-refu
 use Rattle.h264_reader.proofs.entries.step_refusal.Reads as step-refusal-reads
 
 abbrev front : Interval
-front = record { range = 256; offset = 0; at = record { 0 = 0 } }
+front = record { range = 256; offset = 0; position = record { 0 = 0 } }
 
 abbrev zeros : List ℕ
 zeros = replicate 40 0

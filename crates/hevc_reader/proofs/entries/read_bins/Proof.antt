@@ -16,7 +16,7 @@ use Rattle.hevc_reader.proofs.entries.read_bins.Tie as tie
 
 -- where the list's reading starts; the start of the function; that the checks passed
 abbrev front : Interval
-front = record { range = 256; offset = 0; at = record { 0 = 0 } }
+front = record { range = 256; offset = 0; position = record { 0 = 0 } }
 
 abbrev zeros : List ℕ
 zeros = replicate contextCount 0

@@ -8,7 +8,7 @@ use Rattle.hevc_rules.proofs.coeffs.may_hide.Statement.{statement}
 use Rattle.hevc_rules.proofs.coeffs.may_hide.Tie as tie
 
 returns : tie.Need-returns
-returns c = let a = c .before .args in ruled-lossless (a .p .lossless) (rdpcmFlag (a .h .rdpcm)) (a .h .skip && a .p .implicit) (c .if1 .taken)
+returns c = let a = c .before .args in ruled-lossless (a .p .lossless) (rdpcmFlag (a .h .rdpcm)) (a .h .skip && a .p .«implicit_rdpcm») (c .if1 .taken)
 
 implicit-skip-requires : tie.Need-implicit-skip-requires
 implicit-skip-requires c κs = search needs
@@ -16,7 +16,7 @@ implicit-skip-requires c κs = search needs
 returns-2 : tie.Need-returns-2
 returns-2 c =
     let a = c .before .before .before .args in
-    ruled-implicit (a .p .lossless) (rdpcmFlag (a .h .rdpcm)) (a .h .skip && a .p .implicit) (c .before .before .if1 .left) (sym (c .before .implicit-skip .ensures) ∙ c .if2 .taken)
+    ruled-implicit (a .p .lossless) (rdpcmFlag (a .h .rdpcm)) (a .h .skip && a .p .«implicit_rdpcm») (c .before .before .if1 .left) (sym (c .before .implicit-skip .ensures) ∙ c .if2 .taken)
 
 is-none-requires : tie.Need-is-none-requires
 is-none-requires c κs = search needs
@@ -24,7 +24,7 @@ is-none-requires c κs = search needs
 returns-3 : tie.Need-returns-3
 returns-3 c =
     let a = c .before .before .before .before .args in
-    ruled-flag (a .p .lossless) (rdpcmFlag (a .h .rdpcm)) (a .h .skip && a .p .implicit) (c .before .before .before .if1 .left)
+    ruled-flag (a .p .lossless) (rdpcmFlag (a .h .rdpcm)) (a .h .skip && a .p .«implicit_rdpcm») (c .before .before .before .if1 .left)
     (sym (c .before .before .implicit-skip .ensures) ∙ c .before .if2 .left) (c .is-none .result) (c .is-none .ensures)
 
 pub may-hide-spec : {M : Type 1} → statement M

@@ -13,7 +13,7 @@ use Rattle.hevc_scale.proofs.entries.read_scale_bins.Statement.{stateme
 use Rattle.hevc_scale.proofs.entries.read_scale_bins.Tie as tie
 
 abbrev front : Interval
-front = record { range = 256; offset = 0; at = record { 0 = 0 } }
+front = record { range = 256; offset = 0; position = record { 0 = 0 } }
 
 abbrev zeros : List ℕ
 zeros = replicate contextCount 0
