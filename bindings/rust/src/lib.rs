@@ -363,19 +363,7 @@ pub fn residual_coding(
     params: Params,
     levels: &mut [i32],
 ) -> Result<(Found, State), Refusal> {
-    let r = unsafe {
-        bulmegart_residual_coding(
-            payload.as_ptr(),
-            payload.len(),
-            state.raw(),
-            contexts.as_mut_ptr(),
-            statistics.as_mut_ptr(),
-            params.raw(),
-            levels.as_mut_ptr(),
-            levels.len(),
-        )
-    };
-    accepted(r.number, (found(r.found), seen(r.state)))
+    block_by(bulmegart_residual_coding, payload, state, contexts, statistics, params, levels)
 }
 
 /// One block from a bin list, which it must end.
@@ -383,10 +371,7 @@ pub fn residual_coding(
 /// Refusals: 4, 3 with the levels untouched, then 8 or 13 in the order of reading with n·n levels zero. Statistics move on
 /// acceptance alone.
 pub fn read_bins(list: &[u8], statistics: &mut [u8; STATISTICS], params: Params, levels: &mut [i32]) -> Result<Found, Refusal> {
-    let r = unsafe {
-        bulmegart_read_bins(list.as_ptr(), list.len(), statistics.as_mut_ptr(), params.raw(), levels.as_mut_ptr(), levels.len())
-    };
-    accepted(r.number, found(r.found))
+    list_by(bulmegart_read_bins, list, statistics, params, levels)
 }
 
 /// One block as a bin list at the front of the room: the one list that [`read_bins`] reads as exactly these levels, skip and RDPCM. Answers
@@ -402,13 +387,66 @@ pub fn write_bins(
     rdpcm: Rdpcm,
     room: &mut [u8],
 ) -> Result<usize, Refusal> {
+    write_by(bulmegart_write_bins, params, statistics, levels, skip, rdpcm, room)
+}
+
+type BlockCall = unsafe extern "C" fn(*const u8, usize, RawState, *mut u8, *mut u8, RawParams, *mut i32, usize) -> RawBlockAnswer;
+type ListCall = unsafe extern "C" fn(*const u8, usize, *mut u8, RawParams, *mut i32, usize) -> RawListAnswer;
+type WriteCall = unsafe extern "C" fn(RawParams, *mut u8, *const i32, usize, u8, u8, *mut u8, usize) -> RawWriteAnswer;
+
+// The three calls as the full entry points and the plain ones share them. Sound: every pointer comes from a borrow of the length handed on,
+// and what is written is borrowed alone.
+fn block_by(
+    call: BlockCall,
+    payload: &[u8],
+    state: State,
+    contexts: &mut [u8; CONTEXTS],
+    statistics: &mut [u8; STATISTICS],
+    params: Params,
+    levels: &mut [i32],
+) -> Result<(Found, State), Refusal> {
+    let r = unsafe {
+        call(
+            payload.as_ptr(),
+            payload.len(),
+            state.raw(),
+            contexts.as_mut_ptr(),
+            statistics.as_mut_ptr(),
+            params.raw(),
+            levels.as_mut_ptr(),
+            levels.len(),
+        )
+    };
+    accepted(r.number, (found(r.found), seen(r.state)))
+}
+
+fn list_by(
+    call: ListCall,
+    list: &[u8],
+    statistics: &mut [u8; STATISTICS],
+    params: Params,
+    levels: &mut [i32],
+) -> Result<Found, Refusal> {
+    let r = unsafe { call(list.as_ptr(), list.len(), statistics.as_mut_ptr(), params.raw(), levels.as_mut_ptr(), levels.len()) };
+    accepted(r.number, found(r.found))
+}
+
+fn write_by(
+    call: WriteCall,
+    params: Params,
+    statistics: &mut [u8; STATISTICS],
+    levels: &[i32],
+    skip: bool,
+    rdpcm: Rdpcm,
+    room: &mut [u8],
+) -> Result<usize, Refusal> {
     let choice = match rdpcm {
         Rdpcm::None => 0,
         Rdpcm::Horizontal => 1,
         Rdpcm::Vertical => 2,
     };
     let r = unsafe {
-        bulmegart_write_bins(
+        call(
             params.raw(),
             statistics.as_mut_ptr(),
             levels.as_ptr(),

@@ -5,7 +5,7 @@
 //! [`write_bins`](crate::write_bins) answer it, anything else by 24, behind 4 and before 3, with nothing touched. So no statistic is answered by 3,
 //! 7 is never given, and the statistics stay 0.
 use crate::raw::{RawBlockAnswer, RawListAnswer, RawParams, RawState, RawWriteAnswer};
-use crate::{accepted, found, seen, Found, Params, Rdpcm, Refusal, State, CONTEXTS, STATISTICS};
+use crate::{accepted, block_by, list_by, write_by, Found, Params, Rdpcm, Refusal, State, CONTEXTS, STATISTICS};
 
 /// Plain parameters, all zeros after a refusal.
 #[repr(C)]
@@ -156,30 +156,14 @@ pub fn residual_coding_plain(
     params: Params,
     levels: &mut [i32],
 ) -> Result<(Found, State), Refusal> {
-    // Sound, as each call below: every pointer comes from a borrow of the length handed on, and what is written is borrowed alone.
-    let r = unsafe {
-        bulmegart_residual_coding_plain(
-            payload.as_ptr(),
-            payload.len(),
-            state.raw(),
-            contexts.as_mut_ptr(),
-            statistics.as_mut_ptr(),
-            params.raw(),
-            levels.as_mut_ptr(),
-            levels.len(),
-        )
-    };
-    accepted(r.number, (found(r.found), seen(r.state)))
+    block_by(bulmegart_residual_coding_plain, payload, state, contexts, statistics, params, levels)
 }
 
 /// One plain block from a bin list, which it must end.
 ///
 /// Refusals: 4, 24 with the levels untouched, then 8 or 13 in the order of reading with n·n levels zero.
 pub fn read_bins_plain(list: &[u8], statistics: &mut [u8; STATISTICS], params: Params, levels: &mut [i32]) -> Result<Found, Refusal> {
-    let r = unsafe {
-        bulmegart_read_bins_plain(list.as_ptr(), list.len(), statistics.as_mut_ptr(), params.raw(), levels.as_mut_ptr(), levels.len())
-    };
-    accepted(r.number, found(r.found))
+    list_by(bulmegart_read_bins_plain, list, statistics, params, levels)
 }
 
 /// One plain block as a bin list at the front of the room: the one list that [`read_bins_plain`] reads as exactly these levels, skip and RDPCM.
@@ -195,22 +179,5 @@ pub fn write_bins_plain(
     rdpcm: Rdpcm,
     room: &mut [u8],
 ) -> Result<usize, Refusal> {
-    let choice = match rdpcm {
-        Rdpcm::None => 0,
-        Rdpcm::Horizontal => 1,
-        Rdpcm::Vertical => 2,
-    };
-    let r = unsafe {
-        bulmegart_write_bins_plain(
-            params.raw(),
-            statistics.as_mut_ptr(),
-            levels.as_ptr(),
-            levels.len(),
-            skip as u8,
-            choice,
-            room.as_mut_ptr(),
-            room.len(),
-        )
-    };
-    accepted(r.number, r.length)
+    write_by(bulmegart_write_bins_plain, params, statistics, levels, skip, rdpcm, room)
 }

@@ -16,7 +16,7 @@ use Rattle.hevc_exact.specs.Exact.{ReadAgain, write-read, read-write}
 use Rattle.hevc_reader.specs.declared.entries.ReadList.{ReadList}
 use Rattle.hevc_reader.specs.EntriesAgree.{foundSeen, binsRead}
 use Rattle.hevc_reader.specs.declared.entries.ReadList.the-variants as readlist
-use Rattle.hevc_reader.specs.declared.block.Found as code
+use Rattle.hevc_block.specs.declared.block.Found as code
 use Rattle.hevc_writer.specs.declared.entries.Written.{Written}
 use Rattle.hevc_writer.specs.declared.entries.Written.the-variants as listed
 use Rattle.hevc_writer.specs.EntriesPuts.{writtenSays, binsWritten}

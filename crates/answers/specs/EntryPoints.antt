@@ -26,8 +26,8 @@ use Rattle.hevc_cross.specs.Entries as scales
 use Rattle.hevc_scale.specs.EntriesAgree as scaled
 use Rattle.hevc_scale.specs.declared.entries.Read as scale-read
 use Rattle.hevc_scale.specs.declared.entries.ReadList as scale-list
-use Rattle.hevc_decoder.specs.Lent.{lentSays, onLent}
-use Rattle.hevc_decoder.specs.declared.context.Bit.{Bit}
+use Rattle.cabac_context.specs.Lent.{lentSays, onLent}
+use Rattle.cabac_context.specs.declared.context.Bit.{Bit}
 use Rattle.answers.specs.One.{state-one, bins-one, decision-one, lent-one, read-one, list-one, written-one, made-one, scale-one, scale-list-one, scale-written-one}
 
 -- ---- the engine: nothing is lent that it changes

@@ -14,7 +14,7 @@ use Rattle.cabac.specs.declared.engine.Decision.the-variants as ofDecision
 use Rattle.cabac.specs.declared.engine.Bins.{Bins}
 use Rattle.cabac.specs.declared.engine.Bins.the-variants as ofBins
 use Rattle.hevc_residual.specs.Entries.{Found, FoundAt, PayloadRead, BinsRead, BinsWritten}
-use Rattle.hevc_reader.specs.declared.block.Found as code
+use Rattle.hevc_block.specs.declared.block.Found as code
 use Rattle.hevc_reader.specs.declared.entries.Read.{Read}
 use Rattle.hevc_reader.specs.declared.entries.Read.the-variants as ofRead
 use Rattle.hevc_reader.specs.declared.entries.ReadList.{ReadList}
@@ -32,9 +32,9 @@ use Rattle.hevc_scale.specs.declared.entries.Read as scale-read
 use Rattle.hevc_scale.specs.declared.entries.Read.the-variants as ofScale
 use Rattle.hevc_scale.specs.declared.entries.ReadList as scale-list
 use Rattle.hevc_scale.specs.declared.entries.ReadList.the-variants as ofScaleList
-use Rattle.hevc_decoder.specs.Lent.{BitAt, Lent, lentSays}
-use Rattle.hevc_decoder.specs.declared.context.Bit.{Bit}
-use Rattle.hevc_decoder.specs.declared.context.Bit.the-variants as ofBit
+use Rattle.cabac_context.specs.Lent.{BitAt, Lent, lentSays}
+use Rattle.cabac_context.specs.declared.context.Bit.{Bit}
+use Rattle.cabac_context.specs.declared.context.Bit.the-variants as ofBit
 
 -- ---- accepted is not refused, and each says what it holds
 no-both : {A X : Type 0} (a : A) (n : ℕ) → accepted a ≡ refused n → X

@@ -8,12 +8,12 @@ use mathlib.Core.Logic.{_⊎_, ⊎-elim}
 use lib.Dec.{leb, eqb}
 use lib.ListN.{length, take, drop, getD, length-drop}
 use borrow.Author.Tests.{leb-true, le-leb, lt-leb, eqb-true}
-use Rattle.text.specs.declared.fields.Digit.{Digit}
-use Rattle.text.specs.declared.fields.Digit.the-variants as ofDigit
-use Rattle.text.specs.declared.fields.Octet.{Octet}
-use Rattle.text.specs.declared.fields.Octet.the-variants as ofOctet
-use Rattle.text.specs.Spelled.{digitOf, octetFrom, octetOf, octetThen, octetsOf}
-use Rattle.text.specs.SpelledLaws.{digit-decimal, digit-letter}
+use Rattle.text_fields.specs.declared.fields.Digit.{Digit}
+use Rattle.text_fields.specs.declared.fields.Digit.the-variants as ofDigit
+use Rattle.text_fields.specs.declared.fields.Octet.{Octet}
+use Rattle.text_fields.specs.declared.fields.Octet.the-variants as ofOctet
+use Rattle.text_fields.specs.Spelled.{digitOf, octetFrom, octetOf, octetThen, octetsOf}
+use Rattle.text_fields.specs.SpelledLaws.{digit-decimal, digit-letter}
 use Rattle.text_room.specs.Decimal.{decimal}
 use Rattle.book_lines.specs.Lines.{Line, lineFeed}
 use Rattle.book_lines.specs.Form.{mostDigits, frontDigits, isDigit, allDigits, worth, lengthField, spellsBytes, agrees, formRefusal}

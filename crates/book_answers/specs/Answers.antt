@@ -4,7 +4,7 @@ use mathlib.Core.Bool.{cond}
 use mathlib.Core.List.{List, [], _∷_, _++_}
 use lib.Dec.{ltb}
 use lib.ListN.{getD, set, replicate}
-use Rattle.text.specs.Spelled.{octetsOf}
+use Rattle.text_fields.specs.Spelled.{octetsOf}
 use Rattle.text_room.specs.Decimal.{decimal}
 use Rattle.book_lines.specs.Lines.{Line, lineFeed, program}
 use Rattle.book_lines.specs.Form.{formRefusal}

@@ -21,7 +21,7 @@ use Rattle.hevc_residual.specs.Remainder.{remainderS}
 use Rattle.hevc_residual.specs.Residual.{residual}
 use Rattle.hevc_residual.specs.Numbers.{withinLimits, parameterRefusal, contextsRefusal, statisticRefusal, statisticsRefusal}
 use Rattle.hevc_residual.specs.Entries.{readByEngine, readPayloadBy, readPayload}
-use Rattle.text.specs.Spelled.{digitOf, octetFrom, octetOf, octetThen, octetsOf}
+use Rattle.text_fields.specs.Spelled.{digitOf, octetFrom, octetOf, octetThen, octetsOf}
 use Rattle.text_room.specs.Decimal.{decimalIn, decimal}
 use Rattle.book_lines.specs.Lines.{lastLine, linesFrom, written}
 use Rattle.book_lines.specs.Form.{isDigit, allDigits, worth, lengthField, spellsBytes, agrees, spellingRefusal, lengthRefusal, firstOf, formRefusal}

@@ -8,7 +8,7 @@ use lib.Dec.{ltb}
 use lib.ListN.{length, take, drop, getD, set, length-take}
 use lib.Seq.{take-all, take-at, set-out}
 use borrow.Author.Tests.{lt-ltb, le-ltb}
-use Rattle.text.specs.Spelled.{octetsOf, octetsOver}
+use Rattle.text_fields.specs.Spelled.{octetsOf, octetsOver}
 use Rattle.text_room.specs.Decimal.{decimal}
 use Rattle.book_lines.specs.declared.pending.Pending.{Pending}
 use Rattle.book_lines.specs.Lines.{Line, lineOf, lineFeed}

@@ -2,7 +2,7 @@
 use book_lines::form::refusal;
 use frame::judge::Verdict;
 use frame::judge::judge;
-use text::fields::hex_bytes;
+use text_fields::fields::hex_bytes;
 use text_room::put;
 use text_room::put_decimal;
 ghost use mathlib.Core.Path.{_≡_};

@@ -9,8 +9,8 @@ use lib.Dec.{leb, eqb}
 use lib.ListN.{length, take, drop, getD, set, length-append, drop-of-length-le}
 use lib.Seq.{take-all, take-at, drop-cons, take-suc, take-suc-set, length-take-le}
 use borrow.Author.Tests.{leb-true, le-leb, lt-leb, eq-eqb, ne-eqb}
-use Rattle.text.specs.Spelled.{within}
-use Rattle.text.specs.SpelledLaws.{inside}
+use Rattle.text_fields.specs.Spelled.{within}
+use Rattle.text_fields.specs.SpelledLaws.{inside}
 use Rattle.book_lines.specs.declared.pending.Pending.{Pending}
 use Rattle.book_lines.specs.Lines.{Line, lineOf, ended, lineFeed, lastLine, written}
 use Rattle.book_lines.specs.Form.{mostDigits, frontDigits, isDigit, allDigits, worth, lengthField, spellsBytes, agrees, longRefusal, spellingRefusal, lengthRefusal, firstOf, formRefusal}

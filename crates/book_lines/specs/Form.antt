@@ -4,7 +4,7 @@ use mathlib.Core.Bool.{Bool, true, false, _&&_, _||_, cond}
 use mathlib.Core.List.{List, [], _∷_}
 use lib.Dec.{leb, eqb}
 use lib.ListN.{length, getD}
-use Rattle.text.specs.Spelled.{within}
+use Rattle.text_fields.specs.Spelled.{within}
 use Rattle.book_lines.specs.Lines.{Line}
 
 -- the longest line: 8 bytes, 130 initial values, a payload of 4,096 bytes

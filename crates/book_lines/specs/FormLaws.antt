@@ -9,8 +9,8 @@ use lib.Dec.{leb, ltb, eqb}
 use lib.ListN.{length, take, getD, length-take}
 use lib.Seq.{take-all}
 use borrow.Author.Tests.{leb-true, leb-false, lt-leb, le-leb, ne-eqb, eqb-true}
-use Rattle.text.specs.Spelled.{within}
-use Rattle.text.specs.SpelledLaws.{both, inside}
+use Rattle.text_fields.specs.Spelled.{within}
+use Rattle.text_fields.specs.SpelledLaws.{both, inside}
 use Rattle.book_lines.specs.Lines.{Line, ended, lineFeed, linesFrom}
 use Rattle.book_lines.specs.Steps.{mostHeld}
 use Rattle.book_lines.specs.Form.{mostDigits, isDigit, allDigits, spellsBytes, agrees, spellingRefusal, lengthRefusal, firstOf, formRefusal}

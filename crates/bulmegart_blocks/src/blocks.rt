@@ -9,7 +9,7 @@ use bulmegart::records::params_flags;
 use bulmegart::records::params_of;
 use bulmegart::records::rdpcm_number;
 use bulmegart::records::state_of;
-use hevc_reader::block::Found;
+use hevc_block::block::Found;
 use hevc_reader::entries::Read;
 use hevc_reader::entries::ReadList;
 use hevc_reader::entries::read_bins;

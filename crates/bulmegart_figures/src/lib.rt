@@ -1,14 +1,14 @@
 // The morning figures for C: lent as three arrays of 1,024 (one number for each place), 24 tallies and the totals.
 use figures::add::Added;
 use figures::add::Totals;
-use figures::add::add_block;
-use figures::add::add_refusal;
-use figures::add::merge;
-use figures::begin::begin;
 use figures::out::PlaceFigures;
 use figures::out::TallyFigure;
-use figures::out::at_place;
-use figures::out::tally_of;
+use figures_add::add::add_block;
+use figures_add::add::add_refusal;
+use figures_merge::merge::merge;
+use figures_read::begin::begin;
+use figures_read::out::at_place;
+use figures_read::out::tally_of;
 ghost use mathlib.Core.Path.{_≡_};
 ghost use mathlib.Core.List.{List};
 ghost use Prim.Native.Nat.{ℕ};

@@ -1,11 +1,11 @@
 // What changes a kept block, and a fresh count.
+use hevc_kept::kept::clear;
+use hevc_kept::kept::copy_in;
+use hevc_kept::kept::recount;
+use hevc_kept::kept::set_level;
 use hevc_summary::kept::Changed;
 use hevc_summary::kept::Form;
 use hevc_summary::kept::Whole;
-use hevc_summary::kept::clear;
-use hevc_summary::kept::copy_in;
-use hevc_summary::kept::recount;
-use hevc_summary::kept::set_level;
 ghost use mathlib.Core.Path.{_≡_};
 ghost use Rattle.hevc_summary.specs.Summary.{Keeps};
 ghost use Rattle.hevc_summary.specs.Entries as entries;

@@ -5,7 +5,7 @@ use bulmegart::records::engine_of;
 use bulmegart::records::state_handed;
 use bulmegart::records::state_of;
 use hevc_tray::entries::Tray;
-use hevc_tray::entries::read_tray;
+use hevc_tray_reader::entries::read_tray;
 ghost use mathlib.Core.Path.{_≡_};
 ghost use Rattle.bulmegart_tray.specs.Trays.{trayAnswered, trayLeft, trayRead};
 

@@ -1,3 +1,2 @@
-// The entry points of the arithmetic engine of H.265 (CABAC) and of its contexts. Each takes anything that it can be handed.
-pub mod contexts; // contexts.rt: initialisation of the lent contexts
-pub mod engine; // engine.rt: the entry points over payload and state
+// What every entry point over a payload begins and ends with.
+pub mod engine; // engine.rt: what is refused of payload and state, the state opened and settled

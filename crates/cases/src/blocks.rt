@@ -16,7 +16,7 @@ use crate::record::value;
 use crate::writes::is_list_of;
 use bins::state::Engine;
 use bins::tags::CONTEXTS;
-use hevc_reader::block::Found;
+use hevc_block::block::Found;
 use hevc_reader::entries::Read;
 use hevc_reader::entries::ReadList;
 use hevc_reader::entries::read_bins;

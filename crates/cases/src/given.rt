@@ -5,15 +5,15 @@ use bins::places::BitPlace;
 use bins::state::Engine;
 use bytes::scan::find;
 use cabac::engine::State;
-use cabac::engine::start;
+use cabac_engine::engine::start;
 use hevc_residual::params::Params;
 use hevc_residual::params::Rdpcm;
-use text::fields::Number;
-use text::fields::Octets;
-use text::fields::decimal;
-use text::fields::field;
-use text::fields::hex_bytes;
 use text::lines::part;
+use text_fields::fields::Number;
+use text_fields::fields::Octets;
+use text_fields::fields::decimal;
+use text_fields::fields::field;
+use text_fields::fields::hex_bytes;
 
 // How many bytes a payload, a list and a room have at most. The longest list of a block has 71,088.
 pub const LIST: usize = 73728;

@@ -15,10 +15,10 @@ use crate::slices;
 use crate::values;
 use crate::writes;
 use bins::state::Engine;
-use cabac::engine::start;
-use text::fields::Octets;
-use text::fields::hex_bytes;
+use cabac_engine::engine::start;
 use text::lines::part;
+use text_fields::fields::Octets;
+use text_fields::fields::hex_bytes;
 
 // Records of requests that have not landed.
 pub fn is_later(line: &[u8]) -> bool {

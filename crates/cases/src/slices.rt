@@ -13,14 +13,14 @@ use bins::state::Engine;
 use cabac::engine::Bins;
 use cabac::engine::Decision;
 use cabac::engine::State;
-use cabac::engine::decode_bin;
-use cabac::engine::decode_bypass;
-use cabac::engine::decode_bypass_bits;
-use cabac::engine::decode_terminate;
-use cabac::engine::restart;
-use text::fields::Octets;
-use text::fields::hex_bytes;
+use cabac_engine::engine::decode_bin;
+use cabac_engine::engine::decode_bypass;
+use cabac_engine::engine::decode_bypass_bits;
+use cabac_engine::engine::decode_terminate;
+use cabac_engine::engine::restart;
 use text::lines::part;
+use text_fields::fields::Octets;
+use text_fields::fields::hex_bytes;
 
 // How many contexts a slice of any syntax has, and how many bytes its operations at most.
 pub const CONTEXTS: usize = 199;

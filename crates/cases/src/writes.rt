@@ -11,7 +11,7 @@ use crate::given::PLACES;
 use crate::given::RdpcmGiven;
 use crate::record::value;
 use check::same;
-use hevc_reader::block::Found;
+use hevc_block::block::Found;
 use hevc_residual::params::Params;
 use hevc_residual::params::Rdpcm;
 use hevc_writer::entries::Written;

@@ -1,6 +1,6 @@
 // Two payloads held against each other.
-use bins::fetch::draw;
 use bins::places::BitPlace;
+use bits::fetch::draw;
 ghost use mathlib.Core.Path.{_≡_};
 ghost use Prim.Native.Nat.{_*_, _≤_, min};
 ghost use lib.ListN.{length};

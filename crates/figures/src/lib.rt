@@ -1,4 +1,3 @@
-// Figures over blocks of one size: how often each place held a level, the sum and the greatest of its magnitudes, and a tally for every refusal.
-pub mod add; // add.rt: an accepted block, the number of a refused one, other figures
-pub mod begin; // begin.rt: before anything is added
-pub mod out; // out.rt: reading out
+// The morning figures: their definition, what is counted over a list of blocks, laws.
+pub mod add; // add.rt: the figures
+pub mod out; // out.rt: what is read out of a place

@@ -19,7 +19,7 @@ use Rattle.cabac.specs.Contexts.{initialAll}
 use Rattle.hevc_residual.specs.declared.params.Params.{Params}
 use Rattle.hevc_residual.specs.Numbers.{parameterRefusal}
 use Rattle.hevc_residual.specs.Entries.{FoundAt, PayloadRead, readPayload}
-use Rattle.hevc_reader.specs.declared.block.Found.{Found}
+use Rattle.hevc_block.specs.declared.block.Found.{Found}
 use Rattle.hevc_reader.specs.declared.entries.Read.{Read}
 use Rattle.hevc_reader.specs.declared.entries.Read.the-variants as ofRead
 use Rattle.hevc_reader.specs.EntriesAgree.{payloadRead}

@@ -1,8 +1,8 @@
 // The levels at the significant places, from the highest.
 use crate::magnitude::magnitude;
+use bin_steps::steps::decode_bypass;
 use bins::state::Interval;
 use bins::state::Step;
-use bins::steps::decode_bypass;
 ghost use mathlib.Core.Path.{_≡_};
 ghost use Prim.Native.Nat.{_≤_, _<_};
 ghost use lib.ListN.{length, set};

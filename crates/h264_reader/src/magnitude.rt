@@ -1,7 +1,7 @@
 // A magnitude less 1: ones with contexts, then Exp-Golomb in bypass bins.
+use bin_steps::steps::decode_bypass_bits;
 use bins::state::Interval;
 use bins::state::Step;
-use bins::steps::decode_bypass_bits;
 use h264_block::numbers::first_number;
 use h264_block::numbers::later_number;
 use shapes::count;

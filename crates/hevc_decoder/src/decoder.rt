@@ -1,13 +1,13 @@
 // A decoder that holds a reference to its payload, beside the engine's state.
 // Each method takes it apart and calls the entry point on payload and state; the answer has the state behind it, for the next decoder.
-use crate::context;
-use crate::context::Bit;
-use crate::context::CtxModel;
 use bins::state::Engine;
 use bins::tags::CONTEXTS;
-use cabac::engine;
 use cabac::engine::Bins;
 use cabac::engine::State;
+use cabac_context::context;
+use cabac_context::context::Bit;
+use cabac_context::context::CtxModel;
+use cabac_engine::engine;
 use hevc_reader::entries;
 use hevc_reader::entries::Read;
 use hevc_residual::params::Params;
@@ -15,7 +15,7 @@ ghost use mathlib.Core.Path.{_≡_};
 ghost use Rattle.cabac.specs.Entries.{stateSays, binsSay, bypassBits, terminate, alignBypass, byteAlign, restOf};
 ghost use Rattle.hevc_residual.specs.Entries.{readPayload};
 ghost use Rattle.hevc_reader.specs.EntriesAgree.{payloadRead};
-ghost use Rattle.hevc_decoder.specs.Lent.{lentSays, onLent};
+ghost use Rattle.cabac_context.specs.Lent.{lentSays, onLent};
 
 pub struct Decoder<'a> {
     pub payload: &'a [u8],

@@ -235,7 +235,7 @@ module _ (flags : ℕ) (e : Engine) (contexts stats : List ℕ) (ps : List Param
         drew = ap (λ n. trayPastBy n m e contexts stats ps levels) (sym c) ∙ r .2;
       }
 
--- ---- the code: two answers that the promise of hevc_tray::entries::read_tray allows
+-- ---- the code: two answers that the promise of hevc_tray_reader::entries::read_tray allows
 module _ (e : Engine) (contexts stats : List ℕ) (rows : List (List ℕ)) (levels : List ℤ) (found : List (List ℕ)) where
   pub code-tray-depends : (l m : List ℕ) → TrayAsked (rowsRefusal rows) e contexts stats (recordsOf rows) levels found l m
       → (t u : code.Tray) (cs₁ st₁ cs₂ st₂ : List ℕ) (b₁ b₂ : List ℤ) (f₁ f₂ : List (List ℕ))

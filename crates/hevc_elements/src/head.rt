@@ -1,7 +1,7 @@
 // What stands before the sub-blocks: transform_skip_flag, explicit RDPCM, the last significant position.
 use crate::shapes::flag_if;
 use crate::shapes::prefix;
-use bins::seldom::decode_bypass_bits_if_any;
+use bin_steps::seldom::decode_bypass_bits_if_any;
 use bins::state::Interval;
 use bins::state::Step;
 use bins::tags::CONTEXTS;

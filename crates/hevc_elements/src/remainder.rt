@@ -1,9 +1,9 @@
 // coeff_abs_level_remaining (H.265 9.3.3.11): how it is read, and how its Rice parameter and statistic move.
 use crate::shapes::ones;
-use bins::seldom;
+use bin_steps::seldom;
+use bin_steps::steps::decode_bypass_bits;
 use bins::state::Interval;
 use bins::state::Step;
-use bins::steps::decode_bypass_bits;
 use hevc_residual::params::Params;
 ghost use mathlib.Core.Path.{_≡_};
 ghost use mathlib.Core.List.{List};

@@ -1,8 +1,8 @@
 // The shapes that syntax elements are made of: a bin with a context, a flag that may not be coded, a prefix of ones.
+use bin_steps::steps::decode_bin;
+use bin_steps::steps::decode_bypass;
 use bins::state::Interval;
 use bins::state::Step;
-use bins::steps::decode_bin;
-use bins::steps::decode_bypass;
 use bins::tags::CONTEXTS;
 ghost use mathlib.Core.Path.{_≡_};
 ghost use mathlib.Core.Bool.{Bool};

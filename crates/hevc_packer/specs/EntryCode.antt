@@ -15,7 +15,7 @@ use Rattle.hevc_residual.specs.Numbers.{parameterRefusal, contextsRefusal, stat
 use Rattle.hevc_residual.specs.Entries.{BinsRead, foundOf, readFromList, readBinsBy, readBins}
 use Rattle.hevc_reader.specs.declared.entries.ReadList.{ReadList}
 use Rattle.hevc_reader.specs.declared.entries.ReadList.the-variants as readlist
-use Rattle.hevc_reader.specs.declared.block.Found as found
+use Rattle.hevc_block.specs.declared.block.Found as found
 use Rattle.hevc_reader.specs.EntriesAgree.{binsRead}
 use Rattle.hevc_rules.specs.ChecksAgree.{aboveRefusal}
 use Rattle.hevc_rules.specs.ChecksLaws.{above-contexts, above-statistics, contexts-packed}

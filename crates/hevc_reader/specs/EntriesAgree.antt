@@ -18,14 +18,14 @@ use Rattle.hevc_residual.specs.Numbers.{parameterRefusal, contextsRefusal, stat
 use Rattle.hevc_residual.specs.Entries as entries
 use Rattle.hevc_residual.specs.Entries.{PayloadRead, BinsRead, blockWith, cleared}
 use Rattle.hevc_elements.specs.Agree.{from}
-use Rattle.hevc_reader.specs.declared.block.Found.{Found}
-use Rattle.hevc_reader.specs.declared.block.Blocked.{Blocked}
-use Rattle.hevc_reader.specs.declared.block.Blocked.the-variants as blocked
+use Rattle.hevc_block.specs.declared.block.Found.{Found}
+use Rattle.hevc_block.specs.declared.block.Blocked.{Blocked}
+use Rattle.hevc_block.specs.declared.block.Blocked.the-variants as blocked
 use Rattle.hevc_reader.specs.declared.entries.Read.{Read}
 use Rattle.hevc_reader.specs.declared.entries.Read.the-variants as read
 use Rattle.hevc_reader.specs.declared.entries.ReadList.{ReadList}
 use Rattle.hevc_reader.specs.declared.entries.ReadList.the-variants as readlist
-use Rattle.hevc_reader.specs.BlockAgree.{blockOf}
+use Rattle.hevc_block.specs.BlockAgree.{blockOf}
 
 -- ---- the answers with document 01's numbers
 abbrev pub foundSeen : Found → entries.Found

@@ -30,12 +30,12 @@ use Rattle.hevc_residual.specs.LimitLaws.{parameter-passed, statistics-passed}
 use Rattle.hevc_residual.specs.Numbers.{parameterRefusal, contextsRefusal, statisticsRefusal}
 use Rattle.hevc_residual.specs.Entries.{blockWith, cleared, readByEngine, readPayloadBy, readPayload, readFromList, readBinsBy, readBins}
 use Rattle.hevc_elements.specs.Agree.{Reads, from, reads-on}
-use Rattle.hevc_reader.specs.declared.block.Found.{Found}
-use Rattle.hevc_reader.specs.declared.block.Blocked.{Blocked}
-use Rattle.hevc_reader.specs.declared.block.Blocked.the-variants as blocked
+use Rattle.hevc_block.specs.declared.block.Found.{Found}
+use Rattle.hevc_block.specs.declared.block.Blocked.{Blocked}
+use Rattle.hevc_block.specs.declared.block.Blocked.the-variants as blocked
 use Rattle.hevc_reader.specs.declared.entries.Read.the-variants as read
 use Rattle.hevc_reader.specs.declared.entries.ReadList.the-variants as readlist
-use Rattle.hevc_reader.specs.BlockAgree.{blockOf, SaysBlock}
+use Rattle.hevc_block.specs.BlockAgree.{blockOf, SaysBlock}
 use Rattle.hevc_rules.specs.ChecksAgree.{binsChecks, aboveRefusal}
 use Rattle.hevc_reader.specs.EntriesAgree.{payloadRead, binsRead, payloadChecks, blockedNo, SaysInto}
 use Rattle.hevc_rules.specs.ChecksLaws.{above-contexts, above-statistics, contexts-packed}

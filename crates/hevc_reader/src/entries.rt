@@ -1,8 +1,5 @@
 // The two entry points: a block from a payload, and a block from a bin list.
 // Each takes anything: what document 01 does not accept is answered by its number.
-use crate::block::Blocked;
-use crate::block::Found;
-use crate::block::read_block;
 use bins::places::BitPlace;
 use bins::state::Engine;
 use bins::state::Interval;
@@ -11,6 +8,9 @@ use cabac::engine::open;
 use cabac::engine::payload_refusal;
 use cabac::engine::settle;
 use cabac::engine::state_refusal;
+use hevc_block::block::Blocked;
+use hevc_block::block::Found;
+use hevc_block::block::read_block;
 use hevc_residual::params::Params;
 use hevc_rules::checks::above_refusal;
 use hevc_rules::checks::bins_checks;

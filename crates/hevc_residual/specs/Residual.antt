@@ -34,8 +34,11 @@ marked p a xS yS =
     }
 
 -- ctxSet of sub-block number i (9.3.4.2.6): one more if the last sub-block with levels had a greater1
+abbrev pub ctxSetBy : Bool → ℕ → Bool → ℕ → ℕ
+ctxSetBy luma i first greater1Ctx = cond (eqb i 0 || not luma) 0 2 + bitNo (not first && eqb greater1Ctx 0)
+
 abbrev pub ctxSetOf : Params → ℕ → Acc → ℕ
-ctxSetOf p i a = cond (eqb i 0 || not (p .luma)) 0 2 + bitNo (not (a .first) && eqb (a .greater1Ctx) 0)
+ctxSetOf p i a = ctxSetBy (p .luma) i (a .first) (a .greater1Ctx)
 
 -- ---- sub-blocks
 module _ (p : Params) (h : Head) (outer inner : List Spot) where

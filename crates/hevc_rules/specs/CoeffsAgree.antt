@@ -26,10 +26,10 @@ abbrev pub mayHide : Params → Bool → Rdpcm → Bool
 mayHide p skip rdpcm = not (p .lossless) && (not (rdpcmFlag rdpcm) && not (skip && p .«implicit_rdpcm»))
 
 abbrev pub isWide : Places → Bool
-isWide s = ltb 3 (s .list % 16 - lastOf (unpack (s .list / 16) (s .count - 1)) (s .list % 16))
+isWide s = ltb 3 (s .packed % 16 - lastOf (unpack (s .packed / 16) (s .count - 1)) (s .packed % 16))
 
 abbrev pub hides : Params → Bool → Rdpcm → Places → Bool
-hides p skip rdpcm s = signHidden p skip rdpcm (s .list % 16 ∷ unpack (s .list / 16) (s .count - 1))
+hides p skip rdpcm s = signHidden p skip rdpcm (s .packed % 16 ∷ unpack (s .packed / 16) (s .count - 1))
 
 -- ---- all of it
 -- the syntax's accumulator, of what the code has in several places
@@ -40,4 +40,4 @@ accOf c coded levels stats =
 -- the levels at the places of s, which has one at least
 abbrev pub coeffsOf : Params → Head → Spot → (ℕ → Wanted → ℤ) → ℕ → Places → Acc → S Acc
 coeffsOf p h at lv ctxSet s a =
-    coeffsS p (headOf h) lv (spotIn (innerOf p) at) ctxSet (s .list % 16) (unpack (s .list / 16) (s .count - 1)) a
+    coeffsS p (headOf h) lv (spotIn (innerOf p) at) ctxSet (s .packed % 16) (unpack (s .packed / 16) (s .count - 1)) a

@@ -59,12 +59,12 @@ ltb-less a b = go (ltb 3 (a - b)) refl
     go true q = lt-ltb (b + 3) a (omega (arith, ltb-true 3 (a - b) q))
     go false q = le-ltb (b + 3) a (omega (arith, ltb-false 3 (a - b) q))
 
-pub wide-is : (s : Places) → ltb ((s .list / 2 ^ (4 * (s .count - 1))) % 16 + 3) (s .list % 16) ≡ isWide s
+pub wide-is : (s : Places) → ltb ((s .packed / 2 ^ (4 * (s .count - 1))) % 16 + 3) (s .packed % 16) ≡ isWide s
 wide-is s =
     let n = s .count - 1 in
-    let q : (s .list / 2 ^ (4 * n)) % 16 ≡ lastOf (unpack (s .list / 16) n) (s .list % 16) =
-    sym (unpack-last n (s .list) ∙ ap (λ z. s .list / z % 16) (sixteen-pow n)) in
-    ap (λ z. ltb (z + 3) (s .list % 16)) q ∙ ltb-less (s .list % 16) (lastOf (unpack (s .list / 16) n) (s .list % 16))
+    let q : (s .packed / 2 ^ (4 * n)) % 16 ≡ lastOf (unpack (s .packed / 16) n) (s .packed % 16) =
+    sym (unpack-last n (s .packed) ∙ ap (λ z. s .packed / z % 16) (sixteen-pow n)) in
+    ap (λ z. ltb (z + 3) (s .packed % 16)) q ∙ ltb-less (s .packed % 16) (lastOf (unpack (s .packed / 16) n) (s .packed % 16))
 
 pub hides-is : (p : Params) (h : Head) (s : Places) → hides p (h .skip) (h .rdpcm) s ≡ (p .hiding && (isWide s && mayHide p (h .skip) (h .rdpcm)))
 unfolding signHidden
@@ -207,8 +207,8 @@ module _ (p : Params) (h : syntax.Head) (lv : ℕ → Wanted → ℤ) (spotOf : 
 
 -- ---- the places of s
 module _ (s : Places) (some : 0 < s .count) where
-  pub places-all : (s .list % 16 ∷ unpack (s .list / 16) (s .count - 1)) ≡ unpack (s .list) (s .count)
-  places-all = let e : suc (s .count - 1) ≡ s .count = omega arith in sym (unpack-front (s .list) (s .count - 1)) ∙ ap (λ n. unpack (s .list) n) e
+  pub places-all : (s .packed % 16 ∷ unpack (s .packed / 16) (s .count - 1)) ≡ unpack (s .packed) (s .count)
+  places-all = let e : suc (s .count - 1) ≡ s .count = omega arith in sym (unpack-front (s .packed) (s .count - 1)) ∙ ap (λ n. unpack (s .packed) n) e
 
-  pub places-many : suc (length (unpack (s .list / 16) (s .count - 1))) ≡ s .count
-  places-many = let e : suc (s .count - 1) ≡ s .count = omega arith in ap suc (unpack-length (s .count - 1) (s .list / 16)) ∙ e
+  pub places-many : suc (length (unpack (s .packed / 16) (s .count - 1))) ≡ s .count
+  places-many = let e : suc (s .count - 1) ≡ s .count = omega arith in ap suc (unpack-length (s .count - 1) (s .packed / 16)) ∙ e

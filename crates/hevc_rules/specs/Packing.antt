@@ -10,10 +10,10 @@ unpack v zero = []
 unpack v (suc n) = (v % 16) ∷ unpack (v / 16) n
 
 abbrev pub unpacked : Places → List ℕ
-unpacked s = unpack (s .list) (s .count)
+unpacked s = unpack (s .packed) (s .count)
 
 pub record Packs (s : Places) : Type 0 where
-  pub small : s .list < 16 ^ s .count
+  pub small : s .packed < 16 ^ s .count
   pub few : s .count ≤ 16
 
 unfoldable pub unmask : ℕ → ℕ → List Bool

@@ -206,8 +206,8 @@ module _ (v n k b : ℕ) (small : v < 16 ^ n) (few : n ≤ 15) (low : k ≤ 15) 
           ap (λ z. unpack (v + (k * 1) * 16 ^ n) z) q ∙ ap (λ z. unpack (v + z * 16 ^ n) (suc n)) r ∙ unpack-more n v k small (omega arith)
 
 pub appended-packs : (s : Places) (k b : ℕ) (few : s .count + b ≤ 16) (fits : Packs s) → s .count ≤ 15 → k ≤ 15 → b ≤ 1
-    → Packs (record { list = listWith (s .list) (s .count) k b; count = s .count + b })
-appended-packs s k b few fits n low bit = record { small = with-small (s .list) (s .count) k b (fits .small) n low bit; few = few }
+    → Packs (record { packed = listWith (s .packed) (s .count) k b; count = s .count + b })
+appended-packs s k b few fits n low bit = record { small = with-small (s .packed) (s .count) k b (fits .small) n low bit; few = few }
 
 -- ---- as the code marks: bin b at place j, for j below 8
 abbrev pub maskWith : ℕ → ℕ → ℕ → ℕ

@@ -12,7 +12,8 @@ use Rattle.bins.specs.Engine.{bitNo}
 use Rattle.hevc_residual.specs.Layout.{atCodedSubBlock, inChroma}
 use Rattle.hevc_rules.specs.declared.places.Places.{Places}
 use Rattle.hevc_rules.specs.Packing.{unpack}
-use Rattle.hevc_rules.specs.SubsAgree.{codedAt, near, flagNumber, Met, ctxsetOf}
+use Rattle.hevc_rules.specs.SubsAgree.{codedAt, near, flagNumber, Met}
+use Rattle.hevc_residual.specs.Residual.{ctxSetBy}
 
 -- ---- coded neighbours
 module _ (l : List Bool) (w x y : ℕ) where
@@ -50,7 +51,7 @@ flag-number-is l w x y luma n q = go (codedAt l w (x + 1) y) (codedAt l w x (y +
     go false false e = rw e
 
 -- ---- the places met
-pub met-last : (i last lastin : ℕ) (s : Places) → i ≡ last → lastin ≤ 15 → s ≡ record { list = lastin; count = 1 } → Met i last lastin s
+pub met-last : (i last lastin : ℕ) (s : Places) → i ≡ last → lastin ≤ 15 → s ≡ record { packed = lastin; count = 1 } → Met i last lastin s
 unfolding unpack
 met-last i last lastin s q h e =
     let m : lastin % 16 ≡ lastin = mod-eq-of-lt (omega arith) in
@@ -62,7 +63,7 @@ met-last i last lastin s q h e =
       none = λ f. let z : _≡_ {A = Bool} true false = sym t ∙ f in let y : _≡_ {A = ℕ} 0 1 = cc in absurd (omega arith);
     }
 
-pub met-none : (i last lastin : ℕ) (s : Places) → (i ≡ last → ⊥) → s ≡ record { list = 0; count = 0 } → Met i last lastin s
+pub met-none : (i last lastin : ℕ) (s : Places) → (i ≡ last → ⊥) → s ≡ record { packed = 0; count = 0 } → Met i last lastin s
 unfolding unpack
 met-none i last lastin s q e =
     let t = ne-eqb i last q in
@@ -73,15 +74,15 @@ square-small w h = let a : w * w ≤ 8 * w = mul-le-mul-right w h in omega arith
 
 -- ---- the greater1 set
 pub set-first : (luma : Bool) (i : ℕ) (first : Bool) (carry n : ℕ) → first ≡ true → (n ≡ cond (eqb i 0 || not luma) 0 2) × (n ≤ 2)
-    → (n ≡ ctxsetOf luma i first carry) × (n ≤ 3)
+    → (n ≡ ctxSetBy luma i first carry) × (n ≤ 3)
 set-first luma i first carry n q h = (h .0 ∙ rw q (omega arith), omega (arith, h .1))
 
 pub set-more : (luma : Bool) (i : ℕ) (first : Bool) (carry n : ℕ) → first ≡ false → carry ≡ 0 → (n ≡ cond (eqb i 0 || not luma) 0 2) × (n ≤ 2)
-    → (n + 1 ≡ ctxsetOf luma i first carry) × (n + 1 ≤ 3)
+    → (n + 1 ≡ ctxSetBy luma i first carry) × (n + 1 ≤ 3)
 set-more luma i first carry n q z h = (rw (q, z) (ap (λ k. k + 1) (h .0)), omega (arith, h .1))
 
 pub set-same : (luma : Bool) (i : ℕ) (first : Bool) (carry n : ℕ) → first ≡ false → (carry ≡ 0 → ⊥) → (n ≡ cond (eqb i 0 || not luma) 0 2) × (n ≤ 2)
-    → (n ≡ ctxsetOf luma i first carry) × (n ≤ 3)
+    → (n ≡ ctxSetBy luma i first carry) × (n ≤ 3)
 set-same luma i first carry n q z h = (h .0 ∙ rw (q, ne-eqb carry 0 z) (omega arith), omega (arith, h .1))
 
 -- ---- how many sub-blocks

@@ -39,10 +39,6 @@ pub record Met (i last lastin : ℕ) (s : Places) : Type 0 where
   pub few : s .count ≤ 1
   pub none : eqb i last ≡ false → s .count ≡ 0
 
--- the greater1 set of sub-block number i
-abbrev pub ctxsetOf : Bool → ℕ → Bool → ℕ → ℕ
-ctxsetOf luma i first carry = cond (eqb i 0 || not luma) 0 2 + bitNo (not first && eqb carry 0)
-
 -- a last position within an accepted block
 pub record Last (p : Params) (h : Head) : Type 0 where
   pub least : 2 ≤ p .log2

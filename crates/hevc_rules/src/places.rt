@@ -13,7 +13,7 @@ ghost use Rattle.hevc_rules.specs.PlacesAgree.{sigNumber};
 
 // Places of a sub-block's scan, four bits each, the first read in the lowest.
 pub struct Places {
-    pub list: u64,
+    pub packed: u64,
     pub count: u32,
 }
 
@@ -23,7 +23,7 @@ pub fn appended(s: Places, k: u32, b: u32) -> Places
     ensures { λ r. ⌜ Packs r × (unpacked r ≡ cond (eqb b 1) (unpacked s ++ (k ∷ [])) (unpacked s)) × (r .count ≡ s .count + b) ⌝ }
 {
     Places {
-        list: s.list + (((k * b) as u64) << (4 * s.count)),
+        packed: s.packed + (((k * b) as u64) << (4 * s.count)),
         count: s.count + b,
     }
 }

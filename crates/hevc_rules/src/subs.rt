@@ -6,7 +6,8 @@ ghost use mathlib.Core.Path.{_≡_};
 ghost use Prim.Native.Nat.{_+_, _-_, _*_, _≤_, _<_};
 ghost use lib.ListN.{length};
 ghost use Rattle.bins.specs.Engine.{bitNo};
-ghost use Rattle.hevc_rules.specs.SubsAgree.{codedAt, near, flagNumber, Met, ctxsetOf};
+ghost use Rattle.hevc_rules.specs.SubsAgree.{codedAt, near, flagNumber, Met};
+ghost use Rattle.hevc_residual.specs.Residual.{ctxSetBy};
 ghost use mathlib.Core.Bool.{_&&_, cond, _||_, not};
 ghost use lib.Dec.{ltb, eqb};
 ghost use Rattle.bins.specs.Tags.{contextCount};
@@ -73,11 +74,14 @@ pub fn met(i: u32, last: u32, lastin: u32) -> Places
 {
     if i == last {
         return Places {
-            list: lastin as u64,
+            packed: lastin as u64,
             count: 1,
         };
     }
-    Places { list: 0, count: 0 }
+    Places {
+        packed: 0,
+        count: 0,
+    }
 }
 
 pub fn places_below(i: u32, last: u32, lastin: u32) -> u32
@@ -88,7 +92,7 @@ pub fn places_below(i: u32, last: u32, lastin: u32) -> u32
 
 // ctxSet of sub-block number i (9.3.4.2.6): one more if the last sub-block with levels had a greater1.
 pub fn ctxset_of(p: Params, i: u32, c: Carry) -> u32
-    ensures { λ r. ⌜ (r ≡ ctxsetOf (p .luma) i (c .first) (c .carry)) × (r ≤ 3) ⌝ }
+    ensures { λ r. ⌜ (r ≡ ctxSetBy (p .luma) i (c .first) (c .carry)) × (r ≤ 3) ⌝ }
 {
     let set = first_set(p.luma, i);
     if c.first {

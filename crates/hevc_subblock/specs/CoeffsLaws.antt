@@ -151,37 +151,37 @@ module _ (p : Params) (h : Head) (at : Spot) (list : Bool) (l : List ℕ) (ctxSe
 
   abbrev pub toFlag : ℕ → ℕ → (ℕ → Wanted → ℤ) → List Bool → S Acc
   toFlag mask carry lv coded =
-      flagLeft p (headOf h) lv (spotIn (innerOf p) at) ctxSet (s .list % 16) (unpack (s .list / 16) (s .count - 1)) (accOf c coded levels stats)
+      flagLeft p (headOf h) lv (spotIn (innerOf p) at) ctxSet (s .packed % 16) (unpack (s .packed / 16) (s .count - 1)) (accOf c coded levels stats)
       (record { bins = unmask mask (min 8 (s .count)); greater1Ctx = carry })
 
   abbrev pub toAlign : ℕ → ℕ → Bool → (ℕ → Wanted → ℤ) → List Bool → S Acc
   toAlign mask carry g2 lv coded =
-      alignLeft p (headOf h) lv (spotIn (innerOf p) at) ctxSet (s .list % 16) (unpack (s .list / 16) (s .count - 1)) (accOf c coded levels stats)
+      alignLeft p (headOf h) lv (spotIn (innerOf p) at) ctxSet (s .packed % 16) (unpack (s .packed / 16) (s .count - 1)) (accOf c coded levels stats)
       (record { bins = unmask mask (min 8 (s .count)); greater1Ctx = carry }) g2
 
   abbrev pub toSigns : ℕ → ℕ → Bool → (ℕ → Wanted → ℤ) → List Bool → S Acc
   toSigns mask carry g2 lv coded =
-      signsLeft p (headOf h) lv (spotIn (innerOf p) at) ctxSet (s .list % 16) (unpack (s .list / 16) (s .count - 1)) (accOf c coded levels stats)
+      signsLeft p (headOf h) lv (spotIn (innerOf p) at) ctxSet (s .packed % 16) (unpack (s .packed / 16) (s .count - 1)) (accOf c coded levels stats)
       (record { bins = unmask mask (min 8 (s .count)); greater1Ctx = carry }) g2
 
   abbrev pub toLevels : ℕ → ℕ → Bool → ℕ → (ℕ → Wanted → ℤ) → List Bool → S Acc
   toLevels mask carry g2 signs lv coded =
-      levelsLeft p (headOf h) lv (spotIn (innerOf p) at) ctxSet (s .list % 16) (unpack (s .list / 16) (s .count - 1)) (accOf c coded levels stats)
+      levelsLeft p (headOf h) lv (spotIn (innerOf p) at) ctxSet (s .packed % 16) (unpack (s .packed / 16) (s .count - 1)) (accOf c coded levels stats)
       (record { bins = unmask mask (min 8 (s .count)); greater1Ctx = carry }) g2 signs
 
   abbrev binsOf : (ℕ → Wanted → ℤ) → S Greater1
-  binsOf lv = greater1S lv (atGreater1 + 4 * ctxSet + inChroma (p .luma) 16) 8 (s .list % 16 ∷ unpack (s .list / 16) (s .count - 1)) none
+  binsOf lv = greater1S lv (atGreater1 + 4 * ctxSet + inChroma (p .luma) 16) 8 (s .packed % 16 ∷ unpack (s .packed / 16) (s .count - 1)) none
 
   abbrev behindBins : (ℕ → Wanted → ℤ) → List Bool → Greater1 → S Acc
   behindBins lv coded g =
-      flagLeft p (headOf h) lv (spotIn (innerOf p) at) ctxSet (s .list % 16) (unpack (s .list / 16) (s .count - 1)) (accOf c coded levels stats) g
+      flagLeft p (headOf h) lv (spotIn (innerOf p) at) ctxSet (s .packed % 16) (unpack (s .packed / 16) (s .count - 1)) (accOf c coded levels stats) g
 
   begun : Reads list l x cs → Left (λ lv coded. binsOf lv >>= λ g. behindBins lv coded g) x cs
   begun d lv coded =
       record {
         reads = d;
         left = ap (λ t. from list l t x cs)
-            (coeffs-parts p (headOf h) lv (spotIn (innerOf p) at) ctxSet (s .list % 16) (unpack (s .list / 16) (s .count - 1)) (accOf c coded levels stats));
+            (coeffs-parts p (headOf h) lv (spotIn (innerOf p) at) ctxSet (s .packed % 16) (unpack (s .packed / 16) (s .count - 1)) (accOf c coded levels stats));
       }
 
   module _ (some : 0 < s .count) where
@@ -191,7 +191,7 @@ module _ (p : Params) (h : Head) (at : Spot) (list : Bool) (l : List ℕ) (ctxSe
         (e : (lv : ℕ → Wanted → ℤ) (ks : List ℕ) → min 8 (length ks) ≡ n → SaysGreater n r es (from list l (greater1S lv base 8 ks none) x cs)) where
       bins-say : (lv : ℕ → Wanted → ℤ) → SaysGreater (min 8 (s .count)) r es (from list l (binsOf lv) x cs)
       bins-say lv =
-          let ks = s .list % 16 ∷ unpack (s .list / 16) (s .count - 1) in
+          let ks = s .packed % 16 ∷ unpack (s .packed / 16) (s .count - 1) in
           let o : min 8 (length ks) ≡ n = ap (min 8) (places-many s some) ∙ sym m in
           subst (λ i. SaysGreater i r es (from list l (binsOf lv) x cs)) m
           (subst (λ i. SaysGreater n r es (from list l (greater1S lv i 8 ks none) x cs)) u (e lv ks o))
@@ -221,7 +221,7 @@ module _ (p : Params) (h : Head) (at : Spot) (list : Bool) (l : List ℕ) (ctxSe
       unfolding flagLeft
       read-two y ds d k u r es e =
           let w : (ℕ → Wanted → ℤ) → Wanted → Bool =
-          λ lv t. ltb 2 (natAbs (lv (firstGreater1 (s .list % 16 ∷ unpack (s .list / 16) (s .count - 1)) (unmask mask (min 8 (s .count)))) t)) in
+          λ lv t. ltb 2 (natAbs (lv (firstGreater1 (s .packed % 16 ∷ unpack (s .packed / 16) (s .count - 1)) (unmask mask (min 8 (s .count)))) t)) in
           let f : (lv : ℕ → Wanted → ℤ) (coded : List Bool) → _ =
           λ lv coded.
           behind-flag list l (whole lv coded) x cs (ltb 0 (countOf (unmask mask (min 8 (s .count))))) (not (eqb mask 0))
@@ -238,7 +238,7 @@ module _ (p : Params) (h : Head) (at : Spot) (list : Bool) (l : List ℕ) (ctxSe
             → Answered r (λ v z. Left (toSigns mask carry g2) z ds) NoLevels
         unfolding alignLeft
         read-align y ds d due u r e =
-            let ks = unpack (s .list / 16) (s .count - 1) in
+            let ks = unpack (s .packed / 16) (s .count - 1) in
             let o : (p .aligning && escapeDataPresent (s .count) (ones mask) g2)
             ≡ (p .aligning && escapeDataPresent (suc (length ks)) (countOf (unmask mask (min 8 (s .count)))) g2) =
             ap (λ i. p .aligning && escapeDataPresent i (ones mask) g2) (sym (places-many s some))
@@ -258,8 +258,8 @@ module _ (p : Params) (h : Head) (at : Spot) (list : Bool) (l : List ℕ) (ctxSe
             → r ≡ stepOfBits (bitsFrom list l (s .count - hid) y) → Answered r (λ v z. Left (toLevels mask carry g2 v) z ds) NoLevels
         unfolding signsLeft
         read-signs y ds d hid u r e =
-            let k = s .list % 16 in
-            let ks = unpack (s .list / 16) (s .count - 1) in
+            let k = s .packed % 16 in
+            let ks = unpack (s .packed / 16) (s .count - 1) in
             let n = suc (length ks) - bitNo (hides p (h .skip) (h .rdpcm) s) in
             let o : s .count - hid ≡ n = omega (arith, places-many s some) in
             let f : (lv : ℕ → Wanted → ℤ) (coded : List Bool) → _ =
@@ -278,7 +278,7 @@ module _ (p : Params) (h : Head) (at : Spot) (list : Bool) (l : List ℕ) (ctxSe
           abbrev pub startOf : Going
           startOf =
               record {
-                places = s .list;
+                places = s .packed;
                 count = s .count;
                 mask = mask;
                 bins = n;
@@ -313,10 +313,10 @@ module _ (p : Params) (h : Head) (at : Spot) (list : Bool) (l : List ℕ) (ctxSe
               go false q = omega arith
 
           going-is : (lv : ℕ → Wanted → ℤ) (coded : List Bool) → goingS p at lv g2 signs startOf levels
-              ≡ levelsOf p (headOf h) lv (spotIn (innerOf p) at) ctxSet (s .list % 16) (unpack (s .list / 16) (s .count - 1)) (accOf c coded levels stats) (marked mask carry) g2 signs
+              ≡ levelsOf p (headOf h) lv (spotIn (innerOf p) at) ctxSet (s .packed % 16) (unpack (s .packed / 16) (s .count - 1)) (accOf c coded levels stats) (marked mask carry) g2 signs
           going-is lv coded =
-              let ks = s .list % 16 ∷ unpack (s .list / 16) (s .count - 1) in
-              let hs = suc (length (unpack (s .list / 16) (s .count - 1))) - bitNo (hides p (h .skip) (h .rdpcm) s) in
+              let ks = s .packed % 16 ∷ unpack (s .packed / 16) (s .count - 1) in
+              let hs = suc (length (unpack (s .packed / 16) (s .count - 1))) - bitNo (hides p (h .skip) (h .rdpcm) s) in
               let st = getD stats (sbType p (headOf h)) 0 in
               let f : List ℕ → ℕ → ℕ → ℕ → ℕ → S Filled =
               λ ks b n r t.
@@ -332,12 +332,12 @@ module _ (p : Params) (h : Head) (at : Spot) (list : Bool) (l : List ℕ) (ctxSe
 
           abbrev filledBy : (ℕ → Wanted → ℤ) → List Bool → S Filled
           filledBy lv coded =
-              levelsOf p (headOf h) lv (spotIn (innerOf p) at) ctxSet (s .list % 16) (unpack (s .list / 16) (s .count - 1)) (accOf c coded levels stats)
+              levelsOf p (headOf h) lv (spotIn (innerOf p) at) ctxSet (s .packed % 16) (unpack (s .packed / 16) (s .count - 1)) (accOf c coded levels stats)
               (marked mask carry) g2 signs
 
           abbrev behindLevels : (ℕ → Wanted → ℤ) → List Bool → Filled → S Acc
           behindLevels lv coded f =
-              done (allOf p (headOf h) lv (spotIn (innerOf p) at) ctxSet (s .list % 16) (unpack (s .list / 16) (s .count - 1)) (accOf c coded levels stats)
+              done (allOf p (headOf h) lv (spotIn (innerOf p) at) ctxSet (s .packed % 16) (unpack (s .packed / 16) (s .count - 1)) (accOf c coded levels stats)
               (marked mask carry) f)
 
           opened : Left (λ lv coded. filledBy lv coded >>= λ f. behindLevels lv coded f) y ds

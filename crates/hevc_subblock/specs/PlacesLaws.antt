@@ -52,13 +52,13 @@ module _ (s : Bool) (l : List ℕ) (ctx : ℕ → ℕ) (infer : Bool) (below : �
       step-left lv =
           let e : k ≡ suc (k - 1) = omega arith in
           let b : (eqb (k - 1) 0 && (infer && none (unpacked t))) ≡ a =
-          ap (λ z. eqb (k - 1) 0 && (infer && z)) (unpack-none (t .count) (t .list)) ∙ sym is in
+          ap (λ z. eqb (k - 1) 0 && (infer && z)) (unpack-none (t .count) (t .packed)) ∙ sym is in
           h .left lv ∙ ap (λ i. from s l (placesS lv ctx infer i (unpacked t)) y ds) e
           ∙ ap (λ u. from s l u y ds) (places-more lv ctx infer (k - 1) (unpacked t))
           ∙ ap (λ z. from s l (byInfer z (bin (ctx (k - 1)) (λ v. isSig lv v (k - 1)) done >>= onFrom lv ctx infer (k - 1) (unpacked t))) y ds) b
 
       pub placing-inferred : a ≡ true → (lv : ℕ → Wanted → ℤ)
-          → Packs (record { list = 0; count = 1 }) × (from s l (placesS lv ctx infer below (unpacked met)) x cs ≡ Out.ok (unpack 0 1) (cursor y ds))
+          → Packs (record { packed = 0; count = 1 }) × (from s l (placesS lv ctx infer below (unpacked met)) x cs ≡ Out.ok (unpack 0 1) (cursor y ds))
       unfolding unpack
       placing-inferred q lv = (
         record { small = omega arith; few = omega arith },

@@ -4,22 +4,22 @@ use crate::greater::greater1;
 use crate::levels::Leveled;
 use crate::levels::read_levels;
 use crate::places::refusal;
+use bin_steps::steps::align_bypass;
+use bin_steps::steps::decode_bypass_bits;
 use bins::state::Interval;
 use bins::state::Step;
-use bins::steps::align_bypass;
-use bins::steps::decode_bypass_bits;
 use bins::tags::CONTEXTS;
 use hevc_elements::head::Head;
 use hevc_elements::shapes::flag_if;
+use hevc_level_rules::coeffs::aligns;
+use hevc_level_rules::coeffs::eight;
+use hevc_level_rules::coeffs::greater1_base;
+use hevc_level_rules::coeffs::greater2_number;
+use hevc_level_rules::coeffs::hidden;
+use hevc_level_rules::coeffs::rice_start;
+use hevc_level_rules::coeffs::sb_type;
 use hevc_residual::params::Params;
 use hevc_rules::coeffs::Carry;
-use hevc_rules::coeffs::aligns;
-use hevc_rules::coeffs::eight;
-use hevc_rules::coeffs::greater1_base;
-use hevc_rules::coeffs::greater2_number;
-use hevc_rules::coeffs::hidden;
-use hevc_rules::coeffs::rice_start;
-use hevc_rules::coeffs::sb_type;
 use hevc_rules::levels::Going;
 use hevc_rules::places::Places;
 ghost use mathlib.Core.Path.{_≡_};
@@ -129,7 +129,7 @@ pub fn coeffs(
     let sb = sb_type(p, h.skip);
     let stat = stats[sb];
     let start = Going {
-        places: s.list,
+        places: s.packed,
         count: s.count,
         mask,
         bins: eight(s.count),

@@ -3,7 +3,7 @@ use bins::state::Interval;
 use bins::state::Step;
 use bins::tags::CONTEXTS;
 use hevc_elements::shapes::context_bin;
-use hevc_rules::greater::carry_next;
+use hevc_level_rules::greater::carry_next;
 ghost use Rattle.bins.specs.Tags.{contextCount};
 ghost use mathlib.Core.Path.{_≡_};
 ghost use mathlib.Core.List.{List};

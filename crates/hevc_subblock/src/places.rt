@@ -63,7 +63,13 @@ pub fn significance(
     while 0 < k {
         k -= 1;
         if inferred(k, infer, s.count) {
-            return Placed::Got(Places { list: 0, count: 1 }, y);
+            return Placed::Got(
+                Places {
+                    packed: 0,
+                    count: 1,
+                },
+                y,
+            );
         }
         let number = sig_number(order, map, p, single, neighbours, xs, ys, k);
         let t = context_bin(list, table, contexts, number, bytes, y);

@@ -14,7 +14,7 @@ use Rattle.hevc_residual.specs.declared.params.Params.{Params}
 use Rattle.hevc_residual.specs.Numbers.{parameterRefusal}
 use Rattle.hevc_residual.specs.Remainder.{log2TransformRange}
 use Rattle.hevc_residual.specs.Entries.{FoundAt, Found, PayloadRead, BinsRead, readPayload, readBins}
-use Rattle.hevc_reader.specs.declared.block.Found.{Found as Found′}
+use Rattle.hevc_block.specs.declared.block.Found.{Found as Found′}
 use Rattle.hevc_reader.specs.declared.entries.Read.{Read}
 use Rattle.hevc_reader.specs.declared.entries.Read.the-variants as read
 use Rattle.hevc_reader.specs.declared.entries.ReadList.{ReadList}

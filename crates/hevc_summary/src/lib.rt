@@ -1,3 +1,3 @@
-// A block with its summary kept beside it.
-pub mod kept; // kept.rt: a fresh count, and what changes the block
-pub mod reading; // reading.rt: reading into the block
+// A block with its summary kept beside it: the records, their definition, laws.
+pub mod kept; // kept.rt: the records
+pub mod reading; // reading.rt: what reading into it answers

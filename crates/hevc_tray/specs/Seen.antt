@@ -2,7 +2,7 @@
 use Prim.Native.Nat.{ℕ}
 use mathlib.Core.List.{List}
 use lib.IntN.{ℤ}
-use Rattle.hevc_reader.specs.declared.block.Found.{Found}
+use Rattle.hevc_block.specs.declared.block.Found.{Found}
 use Rattle.hevc_reader.specs.declared.entries.Read.{Read}
 use Rattle.hevc_reader.specs.declared.entries.Read.the-variants as read
 use Rattle.hevc_reader.specs.EntriesAgree.{foundSeen}

@@ -20,7 +20,7 @@ use Rattle.hevc_residual.specs.LimitLaws.{parameter-passed, parameter-same}
 use Rattle.hevc_residual.specs.Numbers.{parameterRefusal, contextsRefusal, statisticsRefusal}
 use Rattle.hevc_residual.specs.Entries as entries
 use Rattle.hevc_residual.specs.Entries.{FoundAt, PayloadRead, readPayload}
-use Rattle.hevc_reader.specs.declared.block.Found.{Found}
+use Rattle.hevc_block.specs.declared.block.Found.{Found}
 use Rattle.hevc_reader.specs.declared.entries.Read.{Read}
 use Rattle.hevc_reader.specs.declared.entries.Read.the-variants as read
 use Rattle.hevc_reader.specs.EntriesAgree.{foundSeen, payloadRead, payloadChecks}

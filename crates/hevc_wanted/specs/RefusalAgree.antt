@@ -27,7 +27,7 @@ pub record Handed (h : Head) (block : List ℤ) (w : Wanted) : Type 0 where
 
 -- the lowest of the places, of which there is one
 abbrev pub lowestOf : Places → ℕ
-lowestOf s = lastOf (unpack (s .list / 16) (s .count - 1)) (s .list % 16)
+lowestOf s = lastOf (unpack (s .packed / 16) (s .count - 1)) (s .packed % 16)
 
 -- the sign there is not the parity of the sum
 abbrev pub signOff : List ℤ → Places → Bool

@@ -110,10 +110,10 @@ unfolding tooFar
 near-ends t l i z h = sym (ap (λ (m : List ℤ). tooFar t m) (drop-of-length-le l h)) ∙ z .left
 
 -- ---- 11
-pub lowest-is : (s : Places) → (s .list / 2 ^ (4 * (s .count - 1))) % 16 ≡ lowestOf s
+pub lowest-is : (s : Places) → (s .packed / 2 ^ (4 * (s .count - 1))) % 16 ≡ lowestOf s
 lowest-is s =
     let n = s .count - 1 in
-    sym (unpack-last n (s .list) ∙ ap (λ z. s .list / z % 16) (sixteen-pow n))
+    sym (unpack-last n (s .packed) ∙ ap (λ z. s .packed / z % 16) (sixteen-pow n))
 
 -- the levels at places that have none add nothing
 pub sum-shown : (lv : ℕ → Wanted → ℤ) (w : Wanted) (levels : List ℤ) → Shows lv w levels → (n : ℕ) → n ≤ 16
@@ -136,11 +136,11 @@ module _ (p : Params) (h : Head) (levels : List ℤ) (s : Places) (e : unpacked 
 
   pub none-agrees : s .count ≡ 0 → false ≡ disagrees p w lv (sigPlaces lv w)
   unfolding disagrees unpack
-  none-agrees q = ap (λ n. disagrees p w lv (unpack (s .list) n)) (sym q) ∙ ap (λ (ks : List ℕ). disagrees p w lv ks) sig
+  none-agrees q = ap (λ n. disagrees p w lv (unpack (s .packed) n)) (sym q) ∙ ap (λ (ks : List ℕ). disagrees p w lv ks) sig
 
-  front : 0 < s .count → s .list % 16 ∷ unpack (s .list / 16) (s .count - 1) ≡ sigPlaces lv w
+  front : 0 < s .count → s .packed % 16 ∷ unpack (s .packed / 16) (s .count - 1) ≡ sigPlaces lv w
   unfolding unpack
-  front n = let q : suc (s .count - 1) ≡ s .count = omega arith in ap (λ n. unpack (s .list) n) q ∙ sig
+  front n = let q : suc (s .count - 1) ≡ s .count = omega arith in ap (λ n. unpack (s .packed) n) q ∙ sig
 
   hides-wanted : hides p (w .skip) (w .rdpcm) s ≡ hides p (h .skip) (h .rdpcm) s
   hides-wanted = ap₂ (λ (a : Bool) (r : Rdpcm). hides p a r s) (c .skip) (c .rdpcm)

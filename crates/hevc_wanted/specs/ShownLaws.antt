@@ -60,7 +60,7 @@ pub record Listed (f : ℕ → Bool) (s : Places) (k : ℕ) : Type 0 where
   pub room : s .count + k ≤ 16
   pub places : unpacked s ++ downFrom f k ≡ downFrom f 16
 
-pub listed-begins : (f : ℕ → Bool) → Listed f (record { list = 0; count = 0 }) 16
+pub listed-begins : (f : ℕ → Bool) → Listed f (record { packed = 0; count = 0 }) 16
 unfolding unpack
 listed-begins f = record { packs = record { small = omega arith; few = omega arith }; room = omega arith; places = refl }
 

@@ -41,7 +41,7 @@ pub fn last_wanted(block: &[i32], order: &[[u8; 2]; 16], outer: &[[u8; 2]; 64], 
         let c = corner_at(outer, p, i);
         let s = places_at(block, order, p, c.xs, c.ys);
         if 0 < s.count {
-            return place_in(order, p, c.xs, c.ys, (s.list % 16) as usize);
+            return place_in(order, p, c.xs, c.ys, (s.packed % 16) as usize);
         }
     }
     Place { x: 0, y: 0 }

@@ -9,9 +9,9 @@ use hevc_elements::head::skip_coded;
 use hevc_elements::remainder::in_range;
 use hevc_elements::remainder::range_bits;
 use hevc_extents::magnitude;
+use hevc_level_rules::coeffs::hidden;
 use hevc_residual::params::Params;
 use hevc_residual::params::Rdpcm;
-use hevc_rules::coeffs::hidden;
 use hevc_rules::places::Places;
 use hevc_rules::sizes::grid;
 use hevc_scans::orders::inner_order;
@@ -115,7 +115,7 @@ fn lowest(s: Places) -> usize
     requires { ⌜ Packs s × (0 < s .count) ⌝ }
     ensures { λ r. ⌜ (r ≡ lowestOf s) × (r < 16) ⌝ }
 {
-    ((s.list >> (4 * (s.count - 1))) % 16) as usize
+    ((s.packed >> (4 * (s.count - 1))) % 16) as usize
 }
 
 fn differ(a: bool, b: bool) -> bool

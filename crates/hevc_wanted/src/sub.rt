@@ -1,7 +1,7 @@
 // One sub-block of the block: its 16 levels in the order of its scan, which places have one, and what they come to.
 use hevc_extents::magnitude;
+use hevc_level_rules::levels::cell_of;
 use hevc_residual::params::Params;
-use hevc_rules::levels::cell_of;
 use hevc_rules::places::Places;
 use hevc_rules::places::appended;
 ghost use mathlib.Core.Path.{_≡_};
@@ -69,7 +69,10 @@ pub fn is_level(v: i32) -> u32
 pub fn places_of(levels: &[i32; 16]) -> Places
     ensures { λ r. ⌜ Packs r × (unpacked r ≡ downFrom (isLevel (now (levels .entry))) 16) ⌝ }
 {
-    let mut s = Places { list: 0, count: 0 };
+    let mut s = Places {
+        packed: 0,
+        count: 0,
+    };
     let mut k: u32 = 16;
     while 0 < k {
         k -= 1;

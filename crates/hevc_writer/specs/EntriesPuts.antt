@@ -27,7 +27,7 @@ use Rattle.pen.specs.Sheet.{Sheet, sheet, enteredAll, Wrote}
 use Rattle.hevc_writer.specs.declared.entries.Written as code
 use Rattle.hevc_writer.specs.declared.entries.Written.the-variants as listed
 use Rattle.pen.specs.RoomPuts.{penAt, counted-same, counted-long, counted-short, written-all}
-use Rattle.hevc_writer.specs.BlockPuts.{wantedOf, Spells}
+use Rattle.hevc_block_pen.specs.BlockPuts.{wantedOf, Spells}
 
 -- ---- the answer with document 01's numbers
 abbrev pub writtenSays : code.Written → Answer ℕ

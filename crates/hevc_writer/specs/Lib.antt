@@ -1,9 +1,2 @@
-pub mod GreaterPuts
-pub mod LevelsPuts
-pub mod PlacesPuts
-pub mod SignsPuts
-pub mod CoeffsPuts
-pub mod SubsPuts
-pub mod BlockPuts
 pub mod EntriesPuts
 pub mod Demand3

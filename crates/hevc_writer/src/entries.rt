@@ -1,7 +1,8 @@
 // The entry point: a block as a list of bins in a lent room.
 // It takes anything: what document 01 does not accept is answered by its number.
-use crate::subs::put_sub_blocks;
+use hevc_block_pen::subs::put_sub_blocks;
 use hevc_elements::head::Head;
+use hevc_pen::head::put_head;
 use hevc_residual::params::Params;
 use hevc_residual::params::Rdpcm;
 use hevc_rules::checks::bins_checks;
@@ -11,7 +12,6 @@ use hevc_scans::orders::inner_order;
 use hevc_scans::orders::outer_order;
 use hevc_wanted::last::last_wanted;
 use hevc_wanted::refusal::write_refusal;
-use pen::head::put_head;
 use pen::room::Pen;
 ghost use mathlib.Core.Path.{_≡_};
 ghost use lib.ListN.{length};
@@ -20,7 +20,7 @@ ghost use Rattle.hevc_residual.specs.Refusal.{writeRefusal};
 ghost use Rattle.hevc_residual.specs.Limits.{Accepted, Statistics};
 ghost use Rattle.hevc_residual.specs.Entries.{writeBins};
 ghost use Rattle.pen.specs.Sheet.{sheet};
-ghost use Rattle.hevc_writer.specs.BlockPuts.{wantedOf, Spells};
+ghost use Rattle.hevc_block_pen.specs.BlockPuts.{wantedOf, Spells};
 ghost use Rattle.hevc_writer.specs.EntriesPuts.{binsWritten};
 ghost use Rattle.hevc_writer.specs.Demand3.{Exactly};
 

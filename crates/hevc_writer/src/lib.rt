@@ -1,8 +1,2 @@
 // The writer of bins: one block of levels as a list of bins in a lent room.
-pub mod coeffs; // coeffs.rt: the levels at the significant places
 pub mod entries; // entries.rt: the entry point
-pub mod greater; // greater.rt: coeff_abs_level_greater1_flag and greater2
-pub mod levels; // levels.rt: remainders
-pub mod places; // places.rt: sig_coeff_flag
-pub mod signs; // signs.rt: coeff_sign_flag as a number
-pub mod subs; // subs.rt: sub-blocks from the last one down

@@ -3,5 +3,4 @@ pub mod SheetLaws
 pub mod ShapeLaws
 pub mod PlainLaws
 pub mod RoomPuts
-pub mod HeadLaws
 pub mod RemainderLaws

@@ -1,6 +1,5 @@
-// Bins into a lent room: one at a time, the shapes of any syntax, and the elements of HEVC's residual (H.265 7.3.8.11) that are made of them.
-pub mod head; // head.rt: what stands before the sub-blocks
+// Bins into a lent room: one at a time, and the shapes of any syntax.
 pub mod plain; // plain.rt: the shapes of any syntax
-pub mod remainder; // remainder.rt: coeff_abs_level_remaining
+pub mod remainder; // remainder.rt: Exp-Golomb by its count and its rest
 pub mod room; // room.rt: one entry
 pub mod shapes; // shapes.rt: the small shapes that elements are made of

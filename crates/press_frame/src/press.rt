@@ -1,6 +1,6 @@
 // A drawing as a frame of the book: the writer makes its levels bins, the packer makes the bins a payload.
 use bins::tags::CONTEXTS;
-use cabac::contexts::init_contexts;
+use cabac_init::contexts::init_contexts;
 use frame::fields::flags_refusal;
 use frame::fields::params;
 use hevc_packer::entries::pack_bins;

@@ -5,7 +5,7 @@ use mathlib.Core.Path.{_≡_, refl, sym, ap, _∙_}
 use mathlib.Core.List.{List, [], _∷_, _++_}
 use lib.ListN.{take}
 use lib.IntN.{ℤ}
-use Rattle.text.specs.Spelled.{octetsOf}
+use Rattle.text_fields.specs.Spelled.{octetsOf}
 use Rattle.text_room.specs.Decimal.{decimal}
 use Rattle.cabac.specs.Numbers.{accepted}
 use Rattle.hevc_residual.specs.Wanted.{area}

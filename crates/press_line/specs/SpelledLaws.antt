@@ -7,7 +7,7 @@ use mathlib.Core.List.{List, [], _∷_}
 use lib.Dec.{leb}
 use lib.ListN.{length, getD}
 use borrow.Author.Tests.{leb-true, leb-false}
-use Rattle.text.specs.Spelled.{octetsOf}
+use Rattle.text_fields.specs.Spelled.{octetsOf}
 use Rattle.book_lines.specs.Lines.{ended}
 use Rattle.book_lines.specs.Form.{isDigit, allDigits, worth, lengthField, formRefusal}
 use Rattle.book_lines.specs.CodeLaws.{digit-decimal, digit-letter, worth-decimal, worth-letter, long-none, spelling-right, length-agrees, in-order, first-none}

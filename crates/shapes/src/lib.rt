@@ -1,10 +1,10 @@
 // The shapes that the elements of any syntax are made of: a bin with a context, and ones counted.
 pub mod levels; // levels.rt: a level's sign and magnitude, and the greatest of several
 
+use bin_steps::steps::decode_bin;
+use bin_steps::steps::decode_bypass;
 use bins::state::Interval;
 use bins::state::Step;
-use bins::steps::decode_bin;
-use bins::steps::decode_bypass;
 ghost use mathlib.Core.Path.{_≡_};
 ghost use mathlib.Core.List.{List};
 ghost use Prim.Native.Nat.{ℕ, _≤_, _<_};

@@ -1,7 +1,7 @@
 // The summary of the block: how many levels are not zero, the sum of their magnitudes, and which 4x4 sub-blocks hold one.
+use hevc_kept::kept::recount;
 use hevc_summary::kept::Form;
 use hevc_summary::kept::Whole;
-use hevc_summary::kept::recount;
 use text::write;
 ghost use Prim.Native.Nat.{_≤_};
 

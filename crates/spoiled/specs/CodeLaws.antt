@@ -9,8 +9,8 @@ use lib.Dec.{eqb}
 use lib.ListN.{length, take, drop, getD, set, length-append, take-append-drop}
 use lib.Seq.{take-at, drop-cons, take-suc, set-at, getD-at, length-take-le}
 use borrow.Author.Tests.{eq-eqb, ne-eqb}
-use Rattle.text.specs.Spelled.{within}
-use Rattle.text.specs.SpelledLaws.{both, inside}
+use Rattle.text_fields.specs.Spelled.{within}
+use Rattle.text_fields.specs.SpelledLaws.{both, inside}
 use Rattle.text_room.specs.Decimal.{decimal}
 use Rattle.book_lines.specs.Lines.{Line, lineOf, lineFeed}
 use Rattle.book_lines.specs.Form.{formRefusal}

@@ -3,7 +3,7 @@ use Prim.Native.Nat.{ℕ, zero, suc, _+_}
 use mathlib.Core.Bool.{Bool, cond}
 use mathlib.Core.List.{List, [], _∷_, _++_}
 use lib.Dec.{eqb}
-use Rattle.text.specs.Spelled.{within}
+use Rattle.text_fields.specs.Spelled.{within}
 use Rattle.text_room.specs.Decimal.{decimal}
 use Rattle.book_lines.specs.Lines.{Line, lineFeed, program}
 use Rattle.book_lines.specs.Form.{formRefusal}

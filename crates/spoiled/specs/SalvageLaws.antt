@@ -9,8 +9,8 @@ use mathlib.Core.Logic.{_⊎_, ⊎-elim}
 use lib.Dec.{leb, eqb}
 use lib.ListN.{length, take, length-append}
 use borrow.Author.Tests.{ne-eqb, eqb-true}
-use Rattle.text.specs.Spelled.{within}
-use Rattle.text.specs.SpelledLaws.{both}
+use Rattle.text_fields.specs.Spelled.{within}
+use Rattle.text_fields.specs.SpelledLaws.{both}
 use Rattle.text_room.specs.Decimal.{decimal}
 use Rattle.book_lines.specs.Lines.{Line, ended, lineFeed, lastLine, linesFrom, lines, written, program}
 use Rattle.book_lines.specs.Steps.{Reading, begun, endOut, piecesOut, joined}

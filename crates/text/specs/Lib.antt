@@ -1,7 +1,1 @@
-pub mod Spelled
-pub mod SpelledLaws
-pub mod OctetsLaws
-pub mod WrittenLaws
-pub mod Fields
-pub mod FieldLaws
 pub mod Lines

@@ -11,7 +11,7 @@ use lib.ListN.{length, take, drop, length-take, length-append, length-drop}
 use lib.Seq.{take-at, take-all, take-append-add, take-append-le, length-take-le, take-length}
 use borrow.Author.Tests.{lt-ltb, le-ltb, leb-true, leb-false}
 use Rattle.io.specs.Digits.{glyph, digits, Fewest}
-use Rattle.text.specs.SpelledLaws.{glyph-decimal}
+use Rattle.text_fields.specs.SpelledLaws.{glyph-decimal}
 use Rattle.text_room.specs.Decimal.{decimalIn, decimal}
 
 -- ---- a piece behind what stands

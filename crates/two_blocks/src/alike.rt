@@ -2,7 +2,7 @@
 use bins::state::Engine;
 use bins::tags::CONTEXTS;
 use check::same;
-use hevc_reader::block::Found;
+use hevc_block::block::Found;
 use hevc_reader::entries::Read;
 use hevc_residual::params::Rdpcm;
 

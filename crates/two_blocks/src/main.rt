@@ -9,7 +9,7 @@ use alike::same_statistics;
 use bins::state::Engine;
 use bins::tags::CONTEXTS;
 use cabac::engine::State;
-use cabac::engine::start;
+use cabac_engine::engine::start;
 use hevc_decoder::decoder::block_through;
 use hevc_reader::entries::Read;
 use hevc_reader::entries::residual_coding;

@@ -39,7 +39,7 @@ returns c =
     let k = c .before .before .before .before .before .corner-at in
     let s = c .before .before .before .before .places-at in
     let r = c .place-in in (
-      looking-found (a .p) (a .block .now) (t .i) (t .inv) (omega arith) (k .result .xs) (k .result .ys) (k .ensures .1) (s .result .list)
+      looking-found (a .p) (a .block .now) (t .i) (t .inv) (omega arith) (k .result .xs) (k .result .ys) (k .ensures .1) (s .result .packed)
           (s .result .count) (s .ensures .1) (omega arith) (r .result) (r .ensures .0),
       r .ensures .1,
     )
@@ -54,7 +54,7 @@ loop-again c =
     let t = d .before .loop in
     let k = c .before .before .before .corner-at in
     let s = c .before .before .places-at in
-    looking-on (a .p) (a .block .now) (t .i) (t .inv) (omega arith) (k .result .xs) (k .result .ys) (k .ensures .1) (s .result .list)
+    looking-on (a .p) (a .block .now) (t .i) (t .inv) (omega arith) (k .result .xs) (k .result .ys) (k .ensures .1) (s .result .packed)
     (s .result .count) (s .ensures .1) (omega arith)
 
 returns-2 : tie.Need-returns-2 Inv-loop μ-loop

@@ -2,18 +2,18 @@
 use native.Mathlib.Omega.{arith}
 use mathlib.Core.Path.{refl, sym, ap, subst, _∙_}
 use Rattle.hevc_rules.specs.BlockLaws.{coded-none, coded-room, coded-long}
-use Rattle.hevc_writer.specs.BlockPuts.{wantedOf, codable, all-in-range, block-put}
+use Rattle.hevc_block_pen.specs.BlockPuts.{wantedOf, codable, all-in-range, block-put}
 use borrow.Author.Needs.{needs}
 use Rattle.hevc_writer.proofs.entries.put_block.Statement.{statement}
 use Rattle.hevc_writer.proofs.entries.put_block.Tie as tie
 use Rattle.hevc_writer.proofs.entries.put_block.Reads as reads
 use Rattle.hevc_writer.proofs.entries.put_block.Lts as lts
 use Rattle.hevc_wanted.proofs.last.last_wanted.Reads as last-wanted-reads
-use Rattle.pen.proofs.head.put_head.Reads as put-head-reads
+use Rattle.hevc_pen.proofs.head.put_head.Reads as put-head-reads
 use Rattle.hevc_rules.proofs.sizes.grid.Reads as grid-reads
 use Rattle.hevc_scans.proofs.orders.inner_order.Reads as inner-order-reads
 use Rattle.hevc_scans.proofs.orders.outer_order.Reads as outer-order-reads
-use Rattle.hevc_writer.proofs.subs.put_sub_blocks.Reads as put-sub-blocks-reads
+use Rattle.hevc_block_pen.proofs.subs.put_sub_blocks.Reads as put-sub-blocks-reads
 
 inner-order-requires : tie.Need-inner-order-requires
 inner-order-requires c κs = search needs

@@ -1,6 +1,6 @@
 -- `part` meets its contract. Assumes nothing.
 use borrow.Author.Needs.{needs}
-use Rattle.text.specs.FieldLaws.{part-is}
+use Rattle.text_fields.specs.FieldLaws.{part-is}
 use Rattle.text.proofs.lines.part.Statement.{statement}
 use Rattle.text.proofs.lines.part.Tie as tie
 

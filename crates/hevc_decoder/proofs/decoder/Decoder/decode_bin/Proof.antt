@@ -41,17 +41,17 @@ use denote.Exit.{yes}
 use denote.Triple.Clauses.{ensured, lasts}
 use Rattle.bins.proofs.state.Engine as E
 use Rattle.bins.proofs.state.Engine.Laws as E′
-use Rattle.hevc_decoder.specs.declared.context.Bit.{Bit}
-use Rattle.hevc_decoder.specs.declared.context.CtxModel.{CtxModel}
+use Rattle.cabac_context.specs.declared.context.Bit.{Bit}
+use Rattle.cabac_context.specs.declared.context.CtxModel.{CtxModel}
 use Rattle.hevc_decoder.specs.declared.decoder.Decoder.{Decoder}
-use Rattle.hevc_decoder.specs.Lent.{lentSays, onLent}
-use Rattle.hevc_decoder.proofs.context.Bit as S
-use Rattle.hevc_decoder.proofs.context.Bit.Laws as S′
-use Rattle.hevc_decoder.proofs.context.CtxModel as X
-use Rattle.hevc_decoder.proofs.context.decode_bin as entry
-use Rattle.hevc_decoder.proofs.context.decode_bin.Symbol as entry-def
-use Rattle.hevc_decoder.proofs.context.decode_bin.Symbol.{name as #entry}
-use Rattle.hevc_decoder.proofs.context.decode_bin.Met as entry-thm
+use Rattle.cabac_context.specs.Lent.{lentSays, onLent}
+use Rattle.cabac_context.proofs.context.Bit as S
+use Rattle.cabac_context.proofs.context.Bit.Laws as S′
+use Rattle.cabac_context.proofs.context.CtxModel as X
+use Rattle.cabac_context.proofs.context.decode_bin as entry
+use Rattle.cabac_context.proofs.context.decode_bin.Symbol as entry-def
+use Rattle.cabac_context.proofs.context.decode_bin.Symbol.{name as #entry}
+use Rattle.cabac_context.proofs.context.decode_bin.Met as entry-thm
 use Rattle.hevc_decoder.proofs.HeldType.{B, D, L}
 use Rattle.hevc_decoder.proofs.decoder.Decoder.Laws as T′
 use Rattle.hevc_decoder.proofs.decoder.Decoder.decode_bin.Key.{name as #method}
@@ -183,5 +183,5 @@ decode-bin-spec 𝓤 H 𝓜 𝓖 𝓡 =
     entered 𝓤 H (tripleOf 𝓤 H (𝓖 .A) method.signature (method.spec 𝓤 H (𝓖 .A) (𝓜 .mem) (𝓡 .run)))
     (tables 𝓤 H 𝓜 𝓡 code.env .C) (tables 𝓤 H 𝓜 𝓡 code.env .Λ) #method code.function (code.unfolded 𝓤 H 𝓜 𝓡)
     (meets 𝓤 H (𝓖 .A) (givenOf 𝓤 H 𝓜 𝓖) (𝓜 .mem) (𝓡 .run) (tablesOf 𝓤 H 𝓜 (tables 𝓤 H 𝓜 𝓡 code.env))
-    (cited 𝓤 H (Entry 𝓤 H (𝓖 .A) (𝓜 .mem) (𝓡 .run)) 𝓜 𝓡 code.env #entry entry-def.routine code.calls-hevc-decoder·context·decode-bin
+    (cited 𝓤 H (Entry 𝓤 H (𝓖 .A) (𝓜 .mem) (𝓡 .run)) 𝓜 𝓡 code.env #entry entry-def.routine code.calls-cabac-context·context·decode-bin
     (entry-thm.met 𝓤 H 𝓜 𝓖 𝓡)))

@@ -42,10 +42,10 @@ use denote.Triple.Clauses.{ensured, lasts}
 use Rattle.bins.proofs.state.Engine as E
 use Rattle.bins.proofs.state.Engine.Laws as E′
 use Rattle.cabac.specs.Entries.{restOf}
-use Rattle.cabac.proofs.engine.rest as entry
-use Rattle.cabac.proofs.engine.rest.Symbol as entry-def
-use Rattle.cabac.proofs.engine.rest.Symbol.{name as #entry}
-use Rattle.cabac.proofs.engine.rest.Met as entry-thm
+use Rattle.cabac_engine.proofs.engine.rest as entry
+use Rattle.cabac_engine.proofs.engine.rest.Symbol as entry-def
+use Rattle.cabac_engine.proofs.engine.rest.Symbol.{name as #entry}
+use Rattle.cabac_engine.proofs.engine.rest.Met as entry-thm
 use Rattle.hevc_decoder.specs.declared.decoder.Decoder.{Decoder}
 use Rattle.hevc_decoder.proofs.decoder.Decoder.Laws as T′
 use Rattle.hevc_decoder.proofs.HeldType.{B, D, L}
@@ -158,4 +158,4 @@ rest-spec 𝓤 H 𝓜 𝓖 𝓡 =
     entered 𝓤 H (tripleOf 𝓤 H (𝓖 .A) method.signature (method.spec 𝓤 H (𝓖 .A) (𝓜 .mem) (𝓡 .run)))
     (tables 𝓤 H 𝓜 𝓡 code.env .C) (tables 𝓤 H 𝓜 𝓡 code.env .Λ) #method code.function (code.unfolded 𝓤 H 𝓜 𝓡)
     (meets 𝓤 H (𝓖 .A) (givenOf 𝓤 H 𝓜 𝓖) (𝓜 .mem) (𝓡 .run) (tablesOf 𝓤 H 𝓜 (tables 𝓤 H 𝓜 𝓡 code.env))
-    (cited 𝓤 H (Entry 𝓤 H (𝓖 .A) (𝓜 .mem) (𝓡 .run)) 𝓜 𝓡 code.env #entry entry-def.routine code.calls-cabac·engine·rest (entry-thm.met 𝓤 H 𝓜 𝓖 𝓡)))
+    (cited 𝓤 H (Entry 𝓤 H (𝓖 .A) (𝓜 .mem) (𝓡 .run)) 𝓜 𝓡 code.env #entry entry-def.routine code.calls-cabac-engine·engine·rest (entry-thm.met 𝓤 H 𝓜 𝓖 𝓡)))

@@ -1,0 +1,80 @@
+// A step from whichever source a reader reads: a bin list, or a payload by the arithmetic engine.
+use crate::list;
+use crate::payload;
+use crate::seldom;
+use bins::state::Interval;
+use bins::state::Step;
+use bins::state::step_of;
+use bins::tags::BYPASS;
+ghost use mathlib.Core.Path.{_≡_};
+ghost use Prim.Native.Nat.{_≤_, _<_};
+ghost use Rattle.tables.specs.Decisions.{decisions};
+ghost use Rattle.bins.specs.Sources.{Readable, stepOf, stepOfBits, binFrom, contextFrom, bypassFrom, bitsFrom, alignFrom};
+
+// A bin with the lent context, whose number is given.
+pub fn decode_bin(
+    list: bool,
+    table: &[u32; 512],
+    c: &mut u8,
+    number: u32,
+    bytes: &[u8],
+    x: Interval,
+) -> Step
+    requires { ⌜ Readable list (now bytes) x × (now c < 128) × (number < 32768) × (now table ≡ decisions) ⌝ }
+    ensures { λ r. ⌜ (r ≡ stepOf (binFrom list (now (bytes .entry)) number (now (c .entry)) x)) × (now (c .exit) ≡ contextFrom list (now (bytes .entry)) (now (c .entry)) x) ⌝ }
+{
+    if list {
+        return list::bin(bytes, number, x);
+    }
+    let t = payload::decide(table, c, bytes, x);
+    step_of(t)
+}
+
+pub fn decode_bypass(list: bool, bytes: &[u8], x: Interval) -> Step
+    requires { ⌜ Readable list (now bytes) x ⌝ }
+    ensures { λ r. ⌜ r ≡ stepOf (bypassFrom list (now (bytes .entry)) x) ⌝ }
+{
+    if list {
+        return list::bin(bytes, BYPASS, x);
+    }
+    let t = payload::bypass_one(bytes, x);
+    step_of(t)
+}
+
+// n bypass bins as a number. Up to 16 of a payload are read here, the rest by a call.
+pub fn decode_bypass_bits(list: bool, bytes: &[u8], x: Interval, n: u32) -> Step
+    requires { ⌜ Readable list (now bytes) x × (n ≤ 32) ⌝ }
+    ensures { λ r. ⌜ r ≡ stepOfBits (bitsFrom list (now (bytes .entry)) n x) ⌝ }
+{
+    if !list {
+        if n <= 16 {
+            let t = payload::bypass_few(bytes, x, n);
+            return step_of(t);
+        }
+    }
+    seldom::decode_bypass_bits(list, bytes, x, n)
+}
+
+// The range becomes 256 before escape bytes; an offset that lies above it is 7.
+pub fn align_bypass(list: bool, bytes: &[u8], x: Interval) -> Step
+    requires { ⌜ Readable list (now bytes) x ⌝ }
+    ensures { λ r. ⌜ r ≡ stepOf (alignFrom list (now (bytes .entry)) x) ⌝ }
+{
+    if list {
+        return list::align(bytes, x);
+    }
+    let at = x.position;
+    let offset = x.offset;
+    let range = 256;
+    if range <= offset {
+        return Step::Refused(7);
+    }
+    Step::Bin(
+        0,
+        Interval {
+            range,
+            offset,
+            position: at,
+        },
+    )
+}

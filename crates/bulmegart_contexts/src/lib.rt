@@ -1,0 +1,2 @@
+// What the bench links: initialisation of contexts.
+pub mod contexts;

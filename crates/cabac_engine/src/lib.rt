@@ -1,0 +1,2 @@
+// The entry points of the arithmetic engine of H.265 (CABAC). Each takes anything that it can be handed.
+pub mod engine; // engine.rt: over payload and state

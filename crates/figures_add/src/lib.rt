@@ -1,0 +1,2 @@
+// A block or a refusal added to the figures.
+pub mod add;

@@ -1,0 +1,58 @@
+use mathlib.Core.Path.{_≡_, sym, _∙_}
+use native.Mathlib.Omega.{arith}
+use Rattle.figures.specs.CodeLaws.{merge-passed, area-few, merge-refused, merge-done}
+use borrow.Author.Needs.{needs}
+use Rattle.figures_merge.proofs.merge.merge.Statement.{statement}
+use Rattle.figures_merge.proofs.merge.merge.Tie as tie
+use Rattle.figures_merge.proofs.merge.merge.Reads as reads
+use Rattle.figures_merge.proofs.merge.merge.Lts as lts
+use Rattle.figures_add.proofs.add.capped64.Reads as capped64-reads
+use Rattle.figures_merge.proofs.merge.join_places.Reads as join-places-reads
+use Rattle.figures_merge.proofs.merge.join_tallies.Reads as join-tallies-reads
+use Rattle.figures_merge.proofs.merge.merge_refusal.Reads as merge-refusal-reads
+use Rattle.hevc_rules.proofs.sizes.area_of.Reads as area-of-reads
+
+-- src/add.rt:258:9
+merge-refusal-requires : tie.Need-merge-refusal-requires
+merge-refusal-requires c κs = search needs
+
+-- src/add.rt:260:9
+returns : tie.Need-returns
+returns c = let a = c .before .before .args in merge-refused (a .totals) (a .other) (a .blocks .now) (a .sums .now) (a .greatests .now) (a .tallies .now) (a .b .now) (a .s .now) (a .g .now) (a .k .now) (c .before .merge-refusal .result) (c .before .merge-refusal .ensures) (c .if1 .taken)
+
+-- src/add.rt:262:51
+area-of-requires : tie.Need-area-of-requires
+area-of-requires c κs = let a = c .before .before .before .before .before .args in let z = sym (c .before .before .before .if1 .left) ∙ c .before .before .before .before .merge-refusal .ensures in let p = merge-passed (a .totals) (a .other) z in (p .least, p .most)
+
+-- src/add.rt:262:5
+join-places-requires : tie.Need-join-places-requires
+join-places-requires c κs = let a = c .before .before .before .before .before .before .args in let z = sym (c .before .before .before .before .if1 .left) ∙ c .before .before .before .before .before .merge-refusal .ensures in let p = merge-passed (a .totals) (a .other) z in omega (arith, c .area-of .ensures, area-few _ (p .most))
+
+-- src/add.rt:263:5
+join-tallies-requires : tie.Need-join-tallies-requires
+join-tallies-requires c κs = search needs
+
+-- src/add.rt:266:19
+add-t20 : tie.Need-add-t20
+add-t20 c = let a = c .before .before .before .before .before .before .before .before .before .before .before .args in let z = sym (c .before .before .before .before .before .before .before .before .before .if1 .left) ∙ c .before .before .before .before .before .before .before .before .before .before .merge-refusal .ensures in let p = merge-passed (a .totals) (a .other) z in omega (arith, p .few)
+
+-- src/add.rt:267:15
+capped64-requires : tie.Need-capped64-requires
+capped64-requires c κs = search needs
+
+-- src/add.rt:244:1
+returns-2 : tie.Need-returns-2
+returns-2 c = let a = c .before .before .before .before .before .before .before .before .before .before .before .before .args in let z = sym (c .before .before .before .before .before .before .before .before .before .before .if1 .left) ∙ c .before .before .before .before .before .before .before .before .before .before .before .merge-refusal .ensures in let p = merge-passed (a .totals) (a .other) z in let r = c .before .before .before .before .before .join-places in merge-done (a .totals) (a .other) (a .blocks .now) (a .sums .now) (a .greatests .now) (a .tallies .now) (a .b .now) (a .s .now) (a .g .now) (a .k .now) z (c .before .before .before .before .before .before .area-of .result) (c .before .before .before .before .before .before .area-of .ensures) (r .last .0) (r .last .1 .0) (r .last .1 .1 .0) (c .before .before .before .join-tallies .last .0) (c .capped64 .result) (r .ensures .0) (r .ensures .1) (r .ensures .2) (c .before .before .before .join-tallies .ensures) (c .capped64 .ensures)
+
+pub merge-spec : {M : Type 1} → statement M
+merge-spec =
+    tie.close
+    (tie.spec
+    merge-refusal-requires
+    returns
+    area-of-requires
+    join-places-requires
+    join-tallies-requires
+    add-t20
+    capped64-requires
+    returns-2)

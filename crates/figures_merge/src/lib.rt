@@ -1,0 +1,2 @@
+// Two benches' figures put together.
+pub mod merge;

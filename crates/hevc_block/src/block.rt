@@ -1,0 +1,110 @@
+// The whole block.
+use crate::subs::sub_blocks;
+use bins::state::Interval;
+use bins::tags::CONTEXTS;
+use hevc_elements::head::Head;
+use hevc_elements::head::Headed;
+use hevc_elements::head::read_head;
+use hevc_extents::greatest_within;
+use hevc_extents::lowest_row;
+use hevc_residual::params::Params;
+use hevc_residual::params::Rdpcm;
+use hevc_rules::sizes::grid;
+use hevc_subblock::coeffs::Carried;
+ghost use mathlib.Core.Path.{_≡_};
+ghost use Prim.Native.Nat.{_-_};
+ghost use lib.ListN.{length, replicate};
+ghost use lib.IntN.{pos};
+ghost use Rattle.tables.specs.Decisions.{decisions};
+ghost use Rattle.hevc_residual.specs.Wanted.{area};
+ghost use Rattle.hevc_elements.specs.Agree.{Reads};
+ghost use Rattle.hevc_residual.specs.Limits.{Accepted, Statistics};
+ghost use Rattle.hevc_block.specs.BlockAgree.{headedNo, carriedNo, foundAt, SaysBlock};
+
+// What document 01 gives of a block, beside its levels.
+pub struct Found {
+    pub skip: bool,
+    pub rdpcm: Rdpcm,
+    // The greatest column and the greatest row that hold a level other than zero: specs/Reach.antt has what a transform may leave out.
+    pub column: u32,
+    pub row: u32,
+    pub greatest: u32,
+}
+
+pub enum Blocked {
+    Got(Found, Interval),
+    Refused(u32),
+}
+
+fn headed_refusal(r: Headed) -> u32
+    ensures { λ n. ⌜ n ≡ headedNo r ⌝ }
+{
+    match r {
+        Headed::Got(_, _) => 0,
+        Headed::Refused(n) => n,
+    }
+}
+
+fn carried_refusal(r: Carried) -> u32
+    ensures { λ n. ⌜ n ≡ carriedNo r ⌝ }
+{
+    match r {
+        Carried::Got(_, _) => 0,
+        Carried::Refused(n) => n,
+    }
+}
+
+fn found_of(h: Head, column: u32, row: u32, greatest: u32) -> Found
+    ensures { λ r. ⌜ r ≡ foundAt h column row greatest ⌝ }
+{
+    let rdpcm = h.rdpcm;
+    Found {
+        skip: h.skip,
+        rdpcm,
+        column,
+        row,
+        greatest,
+    }
+}
+
+// The block is all zero, and as long as the syntax's.
+pub fn read_block(
+    list: bool,
+    table: &[u32; 512],
+    contexts: &mut [u8; CONTEXTS],
+    stats: &mut [u8; 4],
+    bytes: &[u8],
+    p: Params,
+    block: &mut [i32],
+    x: Interval,
+) -> Blocked
+    requires { ⌜ Reads list (now bytes) x (now contexts) × (now table ≡ decisions) × Accepted p × (now block ≡ replicate (area p) (pos 0)) × Statistics (now stats) ⌝ }
+    ensures { λ r. ⌜ (length (now (block .exit)) ≡ area p) × Statistics (now (stats .exit)) × SaysBlock p list (now (bytes .entry)) x (now (contexts .entry)) (now (stats .entry)) r (now (contexts .exit)) (now (block .exit)) (now (stats .exit)) ⌝ }
+{
+    let r = read_head(list, table, contexts, bytes, p, x);
+    let Headed::Got(h, x1) = r else {
+        return Blocked::Refused(headed_refusal(r));
+    };
+    let mut coded = [false; 64];
+    let n = grid(p.log2);
+    let s = sub_blocks(
+        list,
+        table,
+        contexts,
+        bytes,
+        &mut coded[..n],
+        block,
+        stats,
+        p,
+        h,
+        x1,
+    );
+    let Carried::Got(c, x2) = s else {
+        return Blocked::Refused(carried_refusal(s));
+    };
+    let row = lowest_row(block, p);
+    Blocked::Got(
+        found_of(h, c.column, row, greatest_within(block, p, row)),
+        x2,
+    )
+}

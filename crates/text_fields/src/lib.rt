@@ -1,0 +1,2 @@
+// The fields of a line, and the numbers and bytes that they spell.
+pub mod fields; // fields.rt
