@@ -5,6 +5,7 @@ use bins::tags::CONTEXTS;
 use hevc_elements::head::Head;
 use hevc_elements::head::Headed;
 use hevc_elements::head::read_head;
+use hevc_extents::greatest;
 use hevc_extents::greatest_within;
 use hevc_extents::lowest_row;
 use hevc_residual::params::Params;
@@ -19,6 +20,8 @@ ghost use Rattle.tables.specs.Decisions.{decisions};
 ghost use Rattle.hevc_residual.specs.Wanted.{area};
 ghost use Rattle.hevc_elements.specs.Agree.{Reads};
 ghost use Rattle.hevc_residual.specs.Limits.{Accepted, Statistics};
+ghost use Rattle.hevc_residual.specs.Residual.{greatestOf};
+ghost use Rattle.hevc_residual.specs.Extent.{rowExtentOf};
 ghost use Rattle.hevc_block.specs.BlockAgree.{headedNo, carriedNo, foundAt, SaysBlock};
 
 // What document 01 gives of a block, beside its levels.
@@ -67,6 +70,31 @@ fn found_of(h: Head, column: u32, row: u32, greatest: u32) -> Found
     }
 }
 
+// What the levels tell: the row extent and the greatest magnitude.
+struct Told {
+    row: u32,
+    greatest: u32,
+}
+
+// At 4x4 they are asked for apart: where LLVM knows the size, it leaves no loop.
+fn told_of(block: &[i32], p: Params) -> Told
+    requires { ⌜ Accepted p × (length (now block) ≡ area p) ⌝ }
+    ensures { λ r. ⌜ (r .row ≡ rowExtentOf p (now (block .entry))) × (r .greatest ≡ greatestOf (now (block .entry))) ⌝ }
+{
+    if p.log2 == 2 {
+        let row = lowest_row(block, p);
+        return Told {
+            row,
+            greatest: greatest(block),
+        };
+    }
+    let row = lowest_row(block, p);
+    Told {
+        row,
+        greatest: greatest_within(block, p, row),
+    }
+}
+
 // The block is all zero, and as long as the syntax's.
 pub fn read_block(
     list: bool,
@@ -102,9 +130,7 @@ pub fn read_block(
     let Carried::Got(c, x2) = s else {
         return Blocked::Refused(carried_refusal(s));
     };
-    let row = lowest_row(block, p);
-    Blocked::Got(
-        found_of(h, c.column, row, greatest_within(block, p, row)),
-        x2,
-    )
+    let told = told_of(block, p);
+    let row = told.row;
+    Blocked::Got(found_of(h, c.column, row, told.greatest), x2)
 }

@@ -100,7 +100,7 @@ fn clear(block: &mut [i32], n: usize)
     }
 }
 
-// A block into the first places, by a table that is lent. Contexts and statistics are copied, and stored again only where the block is accepted.
+// A block into the first places, by a table that is lent. Contexts and statistics are worked on where they lie; a copy is put back where the block is refused.
 fn read_into(
     list: bool,
     table: &[u32; 512],
@@ -114,17 +114,17 @@ fn read_into(
     requires { ⌜ Reads list (now bytes) x (now contexts) × (now table ≡ decisions) × Accepted p × (area p ≤ length (now block)) × Statistics (now stats) ⌝ }
     ensures { λ r. ⌜ SaysInto p list (now (bytes .entry)) x (now (contexts .entry)) (now (stats .entry)) (now (block .entry)) r (now (contexts .exit)) (now (stats .exit)) (now (block .exit)) ⌝ }
 {
-    let mut cs = *contexts;
-    let mut st = *stats;
+    let contexts_before = *contexts;
+    let stats_before = *stats;
     let n = area_of(p.log2);
     clear(block, n);
-    let r = read_block(list, table, &mut cs, &mut st, bytes, p, &mut block[..n], x);
+    let r = read_block(list, table, contexts, stats, bytes, p, &mut block[..n], x);
     let Blocked::Got(_, _) = r else {
+        *contexts = contexts_before;
+        *stats = stats_before;
         clear(block, n);
         return r;
     };
-    *contexts = cs;
-    *stats = st;
     r
 }
 

@@ -102,15 +102,10 @@ returns-2 c =
           (c .carried-refusal .result) (carried-number (s .result) _ (c .carried-refusal .result) (c .before .enum-told2 .given .1) (c .carried-refusal .ensures)),
     )
 
-lowest-row-requires : tie.Need-lowest-row-requires
-lowest-row-requires c κs =
+told-of-requires : tie.Need-told-of-requires
+told-of-requires c κs =
     let e = c .before .before .before .before .before .before in
     (start1 (call2 e) .pre .2, e .sub-blocks .ensures .0)
-
-greatest-within-requires : tie.Need-greatest-within-requires
-greatest-within-requires c κs =
-    let e = c .before .before .before .before .before .before .before .before in
-    (start1 (call2 e) .pre .2, e .sub-blocks .ensures .0, c .before .lowest-row .ensures)
 
 found-of-requires : tie.Need-found-of-requires
 found-of-requires c κs = search needs
@@ -120,9 +115,10 @@ same-length-2 c = search needs
 
 returns-3 : tie.Need-returns-3
 returns-3 c =
-    let e = c .before .before .before .before .before .before .before .before .before .before in
+    let e = c .before .before .before .before .before .before .before .before in
     let s = e .sub-blocks in
-    let v = c .before .before .before .before .before .before in
+    let v = c .before .before .before .before in
+    let t = c .before .told-of in
     let u = open2 e in
     let g = e .before .before .before .before .before .grid in
     let d = call2 e in
@@ -132,7 +128,7 @@ returns-3 c =
       s .ensures .1,
       subs-got (a .p) (b .pre .2) (a .list) (a .bytes .now) (a .x) (a .contexts .now) (a .stats .now) (d .read-head .result) (d .read-head .last .1 .1 .0) (d .read-head .ensures) (u .r .given .0 .0) (u .r .given .0 .1 .0) (u .r .given .1)
           (coded2 e) (a .block .now) (coded-none (a .p) (g .result) (g .ensures)) (b .pre .3) (s .result) (s .last .1 .1 .0) (s .last .1 .1 .1 .1 .0) (s .last .1 .1 .1 .1 .1 .0) (s .last .1 .1 .1 .1 .1 .1 .0) (s .ensures .2)
-          (b .pre .4) (v .s .given .0 .0) (v .s .given .0 .1 .0) (v .s .given .1) (c .found-of .result) (c .before .before .before .lowest-row .result) (c .before .greatest-within .result) (c .before .before .before .lowest-row .ensures) (c .before .greatest-within .ensures) (c .found-of .ensures),
+          (b .pre .4) (v .s .given .0 .0) (v .s .given .0 .1 .0) (v .s .given .1) (c .found-of .result) (t .result .row) (t .result .greatest) (t .ensures .0) (t .ensures .1) (c .found-of .ensures),
     )
 
 pub read-block-spec : {M : Type 1} → statement M
@@ -153,8 +149,7 @@ read-block-spec =
     carried-refusal-requires
     same-length
     returns-2
-    lowest-row-requires
-    greatest-within-requires
+    told-of-requires
     found-of-requires
     same-length-2
     returns-3)
