@@ -4,18 +4,20 @@
     case_lines.py VECTORS FILE [MORE]     FILE is crates/cases/stdin: what stands behind its line MARK is written anew
     case_lines.py VECTORS FILE all        FILE gets every record of the vectors, not only a sample
 
-VECTORS has hevc.txt, rext.txt, forced.txt, cross.txt, init.txt, engine.txt (VECTORS/FORMAT.md) and the folder 02 with engine.txt, extents.txt and
-cross.txt, whose lines are records already (VECTORS/FORMAT-02.md). MORE is what `oracle sample` writes (oracle/README.md), records too.
+VECTORS has hevc.txt, rext.txt, forced.txt, cross.txt, init.txt, engine.txt (VECTORS/FORMAT.md) and the folder 02 with the files REQUESTS,
+whose lines are records already (VECTORS/FORMAT-02.md). MORE is what `oracle sample` writes (oracle/README.md), records too.
 
 A block of a stream becomes a record of the payload reader, one of the bin reader, which the program writes again, and one of the bin writer
-with a room of one byte less than that list; its row extent is the greatest row that has a level. A scale becomes the same. A slice becomes a
-record for each segment, and where it restarts one of byte alignment.
+with a room of one byte less than that list; its row extent is the greatest row that has a level. A plain block becomes the same three of the
+plain entry points. A scale becomes the same as a block. A slice becomes a record for each segment, and where it restarts one of byte alignment.
 """
 import os
 import sys
 
 MARK = "# ==== records of the vectors, written by tools/case_lines.py"
 BLOCKS = {"hevc.txt": "true streams", "rext.txt": "streams of the reference model", "forced.txt": "ordinary bytes, read with options on"}
+# files of document 02, each whole
+REQUESTS = ("engine.txt", "extents.txt", "cross.txt", "plain.txt", "tray.txt", "pack.txt", "h264.txt")
 # of each choice of parameters and answer the shortest records, so many of each file
 SAMPLE = 2
 # of the slices those with so few bytes: among them several with restarts
@@ -74,6 +76,27 @@ def blocks(folder, every):
             yield from block_records(fields)
 
 
+def is_plain(fields):
+    """8 bits, scans 1 and 2 at 4x4 and 8x8 alone, the six options of the range extensions off, statistics of 0."""
+    log2, _, scan, *_, depth = map(int, fields[2:16])
+    options = [fields[2 + k] for k in (6, 7, 8, 9, 11, 12)]
+    return depth == 8 and (scan == 0 or log2 < 4) and options == ["0"] * 6 and fields[21] == "00000000"
+
+
+def widened(entries):
+    """A list of document 01's one-byte form in two bytes an entry, the low one first."""
+    return "".join(f"{e if e < 240 else e - 236:02x}{e // 240:02x}" for e in bytes.fromhex(entries))
+
+
+def plain_blocks(folder, every):
+    for name, what in BLOCKS.items():
+        records = [line.split(" ") for line in lines_of(folder, name) if line.startswith("B ")]
+        yield f"# plain blocks of {what}: the same by the plain entry points"
+        for fields in filter(is_plain, records if every else sample(records)):
+            for record in block_records(fields):
+                yield "plain" + record.replace(f"list1={fields[22]}", f"list={widened(fields[22])}")
+
+
 def scales(folder):
     yield "# scales of real streams: by the payload reader, by the list reader, and by the writer, whose list is the same, and 12"
     for line in lines_of(folder, "cross.txt"):
@@ -125,9 +148,11 @@ def aligned(state, byte):
 
 
 def requests(folder):
-    for name in ("engine.txt", "extents.txt", "cross.txt"):
+    for name in REQUESTS:
         yield f"# == 02/{name}"
-        yield from lines_of(folder, "02", name)
+        for line in lines_of(folder, "02", name):
+            # a line of h264.txt has two spaces where one parts its fields
+            yield line if line.startswith("#") else " ".join(line.split())
 
 
 def main():
@@ -139,7 +164,7 @@ def main():
     if not every:
         kept = lines_of(name)
         kept = kept[: kept.index(MARK) + 1]
-    written = [*requests(folder), *tables(folder), *slices(folder, every), *scales(folder), *blocks(folder, every)]
+    written = [*requests(folder), *tables(folder), *slices(folder, every), *scales(folder), *blocks(folder, every), *plain_blocks(folder, every)]
     if more and not every:
         written += ["# made blocks, half of them damaged, with the answers of the Rust or the refusals of document 01", *lines_of(more[0])]
     with open(name, "w", encoding="ascii") as lines:

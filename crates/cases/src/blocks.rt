@@ -1,7 +1,8 @@
-// Records of the two block readers.
+// Records of the two block readers, and of the plain ones (request (xi)).
 //
 //     block payload [state p ctx stats places] => answer skip rdpcm column row greatest levels state changes stats
 //     list list or list1 [p stats places] => answer skip rdpcm column row greatest levels stats
+//     plainblock, plainlist: the same
 //
 // At a refusal: answer memory. A list that is accepted must be the one that the bin writer makes of its block.
 use crate::answer;
@@ -12,11 +13,16 @@ use crate::engine;
 use crate::given;
 use crate::given::Chosen;
 use crate::given::PLACES;
+use crate::lent::MARK;
+use crate::lent::front;
+use crate::lent::holds;
 use crate::record::value;
 use crate::writes::is_list_of;
 use bins::state::Engine;
 use bins::tags::CONTEXTS;
 use hevc_block::block::Found;
+use hevc_plain::entries::read_bins_plain;
+use hevc_plain::entries::residual_coding_plain;
 use hevc_reader::entries::Read;
 use hevc_reader::entries::ReadList;
 use hevc_reader::entries::read_bins;
@@ -24,11 +30,8 @@ use hevc_reader::entries::residual_coding;
 use hevc_residual::params::Params;
 use hevc_residual::params::Rdpcm;
 
-// What each place holds before the call; no level has it.
-const MARK: i32 = 1431655765;
-
 // n·n of an accepted size; no other block is written to.
-fn area(log2: u32) -> usize {
+pub fn area(log2: u32) -> usize {
     match log2 {
         2 => 16,
         3 => 64,
@@ -38,38 +41,21 @@ fn area(log2: u32) -> usize {
     }
 }
 
-// Whether a place before the end holds something else than the value; behind the end than the mark.
-fn is_other(place: usize, end: usize, held: i32, value: i32) -> bool {
-    if place < end {
-        return held != value;
-    }
-    held != MARK
-}
-
-// Whether every place before the end holds the value, and every place behind it what it held.
-fn holds(block: &[i32; PLACES], end: usize, value: i32) -> bool {
-    let mut i: usize = 0;
-    while i < PLACES {
-        if is_other(i, end, block[i], value) {
-            return false;
-        }
-        i += 1;
-    }
-    true
-}
-
 fn level(s: &[u8], at: usize, first: bool, n: usize, value: i32) -> usize {
     answer::signed(s, answer::place(s, at, first, n), value)
 }
 
-// The levels of the block that are not 0, and those behind it that were changed.
-fn levels(s: &[u8], at: usize, block: &[i32; PLACES], end: usize) -> usize {
+// The levels from a place on, and before another, that are not 0.
+pub fn levels(s: &[u8], at: usize, block: &[i32], from: usize, end: usize) -> usize {
     let mut to = at;
     let mut none = true;
-    let mut i: usize = 0;
-    while i < PLACES {
-        if is_other(i, end, block[i], 0) {
-            to = level(s, to, none, i, block[i]);
+    let mut i = from;
+    while i < end {
+        if block.len() <= i {
+            return answer::OTHER;
+        }
+        if block[i] != 0 {
+            to = level(s, to, none, i - from, block[i]);
             none = false;
         }
         i += 1;
@@ -77,66 +63,76 @@ fn levels(s: &[u8], at: usize, block: &[i32; PLACES], end: usize) -> usize {
     answer::unless(s, to, !none, b"-")
 }
 
+// The levels of a block, with the places behind it as they were.
+pub fn all_levels(s: &[u8], at: usize, block: &[i32; PLACES], end: usize) -> usize {
+    let to = levels(s, at, block, 0, end);
+    answer::unless(s, to, holds(block, end, PLACES, MARK), b" behind=changed")
+}
+
 fn rdpcm(r: Rdpcm) -> u32 {
     match r {
-        Rdpcm::None => 2,
-        Rdpcm::Horizontal => 0,
-        Rdpcm::Vertical => 1,
+        Rdpcm::None => 0,
+        Rdpcm::Horizontal => 1,
+        Rdpcm::Vertical => 2,
     }
+}
+
+// A direction by its number, which is one more than the record's.
+pub fn direction(s: &[u8], at: usize, n: u32) -> usize {
+    if n == 0 {
+        return answer::text(s, at, b"-1");
+    }
+    answer::decimal(s, at, (n - 1) as u64)
 }
 
 fn found(s: &[u8], at: usize, f: Found, block: &[i32; PLACES], end: usize) -> usize {
     let choice = f.rdpcm;
-    let direction = rdpcm(choice);
     let n = [
         f.skip as u64,
-        direction as u64,
         f.column as u64,
         f.row as u64,
         f.greatest as u64,
         0,
         0,
         0,
+        0,
     ];
     let head = answer::form(s, at, b"answer=0 skip=$0 rdpcm=", &n);
-    let sign = if direction == 2 {
-        answer::text(s, head, b"-1")
-    } else {
-        answer::decimal(s, head, direction as u64)
-    };
-    let to = answer::form(s, sign, b" column=$2 row=$3 greatest=$4 levels=", &n);
-    levels(s, to, block, end)
+    let sign = direction(s, head, rdpcm(choice));
+    let to = answer::form(s, sign, b" column=$1 row=$2 greatest=$3 levels=", &n);
+    all_levels(s, to, block, end)
 }
 
 // What a refusal left of the places that were lent.
-fn refused(s: &[u8], at: usize, n: u32, block: &[i32; PLACES], end: usize) -> usize {
+pub fn refused(s: &[u8], at: usize, n: u32, block: &[i32; PLACES], end: usize) -> usize {
     let to = answer::refusal(s, at, n);
-    if holds(block, end, MARK) {
+    if holds(block, 0, PLACES, MARK) {
         return answer::text(s, to, b" memory=untouched");
     }
-    if holds(block, end, 0) {
+    if holds(block, 0, end, 0) & holds(block, end, PLACES, MARK) {
         return answer::text(s, to, b" memory=zero");
     }
     answer::text(s, to, b" memory=changed")
 }
 
-fn read_into(
+fn read_by(
+    plain: bool,
     bytes: &[u8],
     e: Engine,
     contexts: &mut [u8; CONTEXTS],
     stats: &mut [u8; 4],
     p: Params,
     block: &mut [i32],
-    places: usize,
 ) -> Read {
-    if places < block.len() {
-        return residual_coding(bytes, e, contexts, stats, p, &mut block[..places]);
+    if plain {
+        return residual_coding_plain(bytes, e, contexts, stats, p, block);
     }
     residual_coding(bytes, e, contexts, stats, p, block)
 }
 
 fn block_of(
     s: &[u8],
+    plain: bool,
     bytes: &[u8],
     e: Engine,
     p: Params,
@@ -148,7 +144,15 @@ fn block_of(
     let mut block = [MARK; PLACES];
     let mut after = *contexts;
     let mut left = *stats;
-    let r = read_into(bytes, e, &mut after, &mut left, p, &mut block, places);
+    let r = read_by(
+        plain,
+        bytes,
+        e,
+        &mut after,
+        &mut left,
+        p,
+        front(&mut block, places),
+    );
     let end = area(p.log2);
     match r {
         Read::Block(f, next) => {
@@ -165,7 +169,7 @@ fn block_of(
     }
 }
 
-pub fn block(s: &[u8], bytes: &[u8], e: Engine, places: usize, at: usize) -> usize {
+pub fn block(s: &[u8], plain: bool, bytes: &[u8], e: Engine, places: usize, at: usize) -> usize {
     let mut contexts = [64u8; CONTEXTS];
     let mut stats = [0u8; 4];
     let lent = given::lent(value(s, b"ctx"), &mut contexts);
@@ -173,34 +177,42 @@ pub fn block(s: &[u8], bytes: &[u8], e: Engine, places: usize, at: usize) -> usi
         return NONE;
     }
     match given::params(value(s, b"p")) {
-        Chosen::Are(p) => block_of(s, bytes, e, p, &contexts, &stats, places, at),
+        Chosen::Are(p) => block_of(s, plain, bytes, e, p, &contexts, &stats, places, at),
         Chosen::Missing => NONE,
     }
 }
 
-fn list_into(
+fn list_by(
+    plain: bool,
     bins: &[u8],
     stats: &mut [u8; 4],
     p: Params,
     block: &mut [i32],
-    places: usize,
 ) -> ReadList {
-    if places < block.len() {
-        return read_bins(bins, stats, p, &mut block[..places]);
+    if plain {
+        return read_bins_plain(bins, stats, p, block);
     }
     read_bins(bins, stats, p, block)
 }
 
-fn list_of(s: &[u8], bins: &[u8], p: Params, stats: &[u8; 4], places: usize, at: usize) -> usize {
+fn list_of(
+    s: &[u8],
+    plain: bool,
+    bins: &[u8],
+    p: Params,
+    stats: &[u8; 4],
+    places: usize,
+    at: usize,
+) -> usize {
     let mut block = [MARK; PLACES];
     let mut left = *stats;
-    let r = list_into(bins, &mut left, p, &mut block, places);
+    let r = list_by(plain, bins, &mut left, p, front(&mut block, places));
     let end = area(p.log2);
     match r {
         ReadList::Block(f) => {
             let to = found(s, at, f, &block, end);
             let to = answer::statistics(s, to, &left);
-            let right = is_list_of(p, stats, &block, f, bins, &left);
+            let right = is_list_of(plain, p, stats, &block, f, bins, &left);
             answer::unless(s, to, right, b" again=differs")
         }
         ReadList::Refused(n) => {
@@ -210,13 +222,13 @@ fn list_of(s: &[u8], bins: &[u8], p: Params, stats: &[u8; 4], places: usize, at:
     }
 }
 
-pub fn list(s: &[u8], bins: &[u8], places: usize, at: usize) -> usize {
+pub fn list(s: &[u8], plain: bool, bins: &[u8], places: usize, at: usize) -> usize {
     let mut stats = [0u8; 4];
     if !given::lent(value(s, b"stats"), &mut stats) {
         return NONE;
     }
     match given::params(value(s, b"p")) {
-        Chosen::Are(p) => list_of(s, bins, p, &stats, places, at),
+        Chosen::Are(p) => list_of(s, plain, bins, p, &stats, places, at),
         Chosen::Missing => NONE,
     }
 }

@@ -21,6 +21,9 @@ pub const LIST: usize = 73728;
 // How many places are lent at most: more than the largest block has, so that places behind it are seen.
 pub const PLACES: usize = 1032;
 
+// How many are lent to a tray at most.
+pub const LEVELS: usize = 4864;
+
 // Where the numbers of a record stand in the row that `numbers` fills, in the order of its words.
 pub const COUNT: usize = 0;
 
@@ -38,33 +41,33 @@ pub const LENT: usize = 6;
 
 pub const SKIP: usize = 7;
 
-// What the number is where it is not given; no quantiser is 256.
-fn usual(k: usize) -> u32 {
+// What the number is where it is not given; no quantiser is 256. Of places there are so many.
+fn usual(k: usize, places: u32) -> u32 {
     match k {
         3 => 256,
         5 => LIST as u32,
-        6 => PLACES as u32,
+        6 => places,
         _ => 0,
     }
 }
 
 // The greatest that it can be.
-fn most(k: usize) -> u32 {
+fn most(k: usize, places: u32) -> u32 {
     match k {
         1 | 3 | 4 => 255,
         5 => LIST as u32,
-        6 => PLACES as u32,
+        6 => places,
         7 => 1,
         _ => 4294967295,
     }
 }
 
-enum Word {
+pub enum Word {
     Is(u32),
     Missing,
 }
 
-fn number(s: &[u8]) -> Word {
+pub fn number(s: &[u8]) -> Word {
     match decimal(s) {
         Number::Is(n) => {
             if n < 4294967296 {
@@ -82,13 +85,13 @@ pub fn size(n: u32) -> usize {
 }
 
 // The k-th number of a record from its value.
-fn kth(s: &[u8], k: usize) -> Word {
+fn kth(s: &[u8], k: usize, places: u32) -> Word {
     if s.len() == 0 {
-        return Word::Is(usual(k));
+        return Word::Is(usual(k, places));
     }
     match number(s) {
         Word::Is(n) => {
-            if n <= most(k) {
+            if n <= most(k, places) {
                 return Word::Is(n);
             }
             Word::Missing
@@ -98,11 +101,11 @@ fn kth(s: &[u8], k: usize) -> Word {
 }
 
 // Puts the numbers of a record, and answers whether they are numbers that it can have.
-pub fn numbers(s: &[u8], out: &mut [u32; 8]) -> bool {
+pub fn numbers(s: &[u8], places: u32, out: &mut [u32; 8]) -> bool {
     let mut k: usize = 0;
     while k < 8 {
         let key = field(b"count context component q value room places skip", k);
-        let Word::Is(n) = kth(value(s, key), k) else {
+        let Word::Is(n) = kth(value(s, key), k, places) else {
             return false;
         };
         out[k] = n;
@@ -112,7 +115,7 @@ pub fn numbers(s: &[u8], out: &mut [u32; 8]) -> bool {
 }
 
 // Puts numbers of 32 bits, parted by commas; answers how many, and 0 where one is none or they are too many.
-fn row(s: &[u8], out: &mut [u32; 14]) -> usize {
+pub fn row(s: &[u8], out: &mut [u32; 14]) -> usize {
     let mut at: usize = 0;
     let mut k: usize = 0;
     while k < 14 {

@@ -5,28 +5,31 @@ use crate::blocks;
 use crate::engine;
 use crate::given;
 use crate::given::Handed;
+use crate::given::LEVELS;
 use crate::given::LIST;
+use crate::given::PLACES;
+use crate::h264;
+use crate::packs;
 use crate::record::first;
 use crate::record::is_by;
 use crate::record::value;
 use crate::record::which;
 use crate::scales;
 use crate::slices;
+use crate::trays;
 use crate::values;
 use crate::writes;
 use bins::state::Engine;
 use cabac_engine::engine::start;
+use check::same;
 use text::lines::part;
 use text_fields::fields::Octets;
 use text_fields::fields::hex_bytes;
 
 // Records of requests that have not landed.
 pub fn is_later(line: &[u8]) -> bool {
-    let k = which(
-        b"pack tray kept figures plainblock plainlist plainwrite pair h264 h264list h264write h264init",
-        first(line),
-    );
-    k < 12
+    let k = which(b"kept figures pair", first(line));
+    k < 3
 }
 
 // The keys of each kind; those behind a ? may be missing.
@@ -42,11 +45,21 @@ align payload ?state
 restart payload ?state
 alignbypass payload ?state
 block payload ?state ?p ?ctx ?stats ?places
+plainblock payload ?state ?p ?ctx ?stats ?places
+tray records payload ?state ?ctx ?stats ?places
+h264 payload ?state ?ctx ?places
 cross component payload ?state ?ctx
 slice payload contexts ops ?state
 list list ?p ?stats ?places
 list list1 ?p ?stats ?places
 write levels ?skip ?rdpcm ?p ?stats ?room ?places
+plainlist list ?p ?stats ?places
+plainwrite levels ?skip ?rdpcm ?p ?stats ?room ?places
+pack list ?p ?ctx ?stats ?room
+pack list1 ?p ?ctx ?stats ?room
+h264list list ?places
+h264write levels ?places ?room
+h264init q pairs
 crosslist component list
 crosswrite component scale ?room
 init values q
@@ -107,9 +120,12 @@ fn taken(s: &[u8], bytes: &mut [u8; LIST]) -> Octets {
 // By the kind's number among those with a state; those before blocks are the engine's.
 fn of_state(kind: usize, s: &[u8], bytes: &[u8], e: Engine, n: &[u32; 8], at: usize) -> usize {
     match kind {
-        8 => blocks::block(s, bytes, e, given::size(n[given::LENT]), at),
+        8 => blocks::block(s, false, bytes, e, given::size(n[given::LENT]), at),
         9 => scales::payload(s, bytes, e, n[given::COMPONENT], at),
         10 => slices::slice(s, bytes, e, at),
+        11 => blocks::block(s, true, bytes, e, given::size(n[given::LENT]), at),
+        12 => trays::tray(s, bytes, e, given::size(n[given::LENT]), at),
+        13 => h264::payload(s, bytes, e, given::size(n[given::LENT]), at),
         _ => engine::answered(
             kind,
             s,
@@ -134,29 +150,48 @@ fn of_payload(kind: usize, s: &[u8], bytes: &[u8], n: &[u32; 8], at: usize) -> u
 fn of_other(kind: usize, s: &[u8], bytes: &[u8], n: &[u32; 8], at: usize) -> usize {
     match kind {
         0 => engine::ready(s, at, start(bytes)),
-        1 => blocks::list(s, bytes, given::size(n[given::LENT]), at),
-        2 => writes::write(s, n, at),
+        1 => blocks::list(s, false, bytes, given::size(n[given::LENT]), at),
+        2 => writes::write(s, false, n, at),
         3 => scales::list(s, bytes, n[given::COMPONENT], at),
         4 => scales::write(s, n, at),
         5 => values::contexts(s, bytes, (n[given::QUANTISER] % 256) as u8, at),
+        6 => blocks::list(s, true, bytes, given::size(n[given::LENT]), at),
+        7 => writes::write(s, true, n, at),
+        8 => packs::pack(s, bytes, given::size(n[given::ROOM]), at),
+        9 => h264::list(s, bytes, given::size(n[given::LENT]), at),
+        10 => h264::write(
+            s,
+            given::size(n[given::ROOM]),
+            given::size(n[given::LENT]),
+            at,
+        ),
+        11 => h264::contexts(s, (n[given::QUANTISER] % 256) as u8, at),
         _ => values::value(s, (n[given::VALUE] % 256) as u8, n[given::QUANTISER], at),
     }
 }
 
+// How many places can be lent.
+fn lendable(kind: &[u8]) -> u32 {
+    if same(kind, b"tray") {
+        return LEVELS as u32;
+    }
+    PLACES as u32
+}
+
 fn answered(s: &[u8], bytes: &[u8], at: usize) -> usize {
     let mut n = [0u32; 8];
-    if !given::numbers(s, &mut n) {
+    if !given::numbers(s, lendable(first(s)), &mut n) {
         return NONE;
     }
     let kind = which(
-        b"decision bypass single raw terminate align restart alignbypass block cross slice",
+        b"decision bypass single raw terminate align restart alignbypass block cross slice plainblock tray h264",
         first(s),
     );
-    if kind < 11 {
+    if kind < 14 {
         return of_payload(kind, s, bytes, &n, at);
     }
     let kind = which(
-        b"start list write crosslist crosswrite init initvalue",
+        b"start list write crosslist crosswrite init plainlist plainwrite pack h264list h264write h264init initvalue",
         first(s),
     );
     of_other(kind, s, bytes, &n, at)

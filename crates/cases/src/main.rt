@@ -3,13 +3,13 @@
 //     kind key=value key=value .. => result
 //
 // Fields are parted by one space; numbers are decimal, bytes hexadecimal, a dash where there are none. The kinds, their keys and results stand
-// at the head of engine.rt, blocks.rt, writes.rt, scales.rt, values.rt and slices.rt. A key that is not given:
+// at the head of engine.rt, blocks.rt, writes.rt, trays.rt, packs.rt, scales.rt, values.rt, slices.rt and h264.rt. A key that is not given:
 //
 //     p        parameters: log2, luma, scan, hiding, skip allowed, transquant bypass, persistent Rice, skip context, explicit RDPCM,
 //              implicit RDPCM, inter, alignment, extended precision, depth; 2,1,0,0,0,0,0,0,0,0,0,0,0,8
 //     state    range, offset, position, ended, total past the end; that of a start on the payload, and where it refuses `at=start`
-//     ctx      130 contexts; 64 of each. stats: four statistics; 0 of each
-//     places   how many places are lent, room: how many bytes; 1,032 and 73,728, and no more can be lent
+//     ctx      130 contexts, of H.264 40; 64 of each. stats: four statistics; 0 of each
+//     places   how many places are lent, room: how many bytes; 1,032 (of a tray 4,864) and 73,728, and no more can be lent
 //     skip, rdpcm    0 and -1
 //
 // A line that begins with # is a remark. It is written as it stands, and behind it how many records agreed before the next one; of a
@@ -20,10 +20,14 @@ mod answer; // answer.rt: the text of an answer, held against the wanted text
 mod blocks; // blocks.rt: the block readers
 mod engine; // engine.rt: the engine's entry points
 mod given; // given.rt: what a record hands in
+mod h264; // h264.rt: the block of H.264
 mod kinds; // kinds.rt: which record has which keys, and is answered by which function
+mod lent; // lent.rt: memory that is lent to a call
+mod packs; // packs.rt: the arithmetic writer
 mod record; // record.rt: the fields of a record
 mod scales; // scales.rt: cross-component scales
 mod slices; // slices.rt: whole slices, bin by bin
+mod trays; // trays.rt: trays
 mod values; // values.rt: initialisation
 mod writes; // writes.rt: the bin writer
 

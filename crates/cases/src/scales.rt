@@ -10,6 +10,8 @@ use crate::engine;
 use crate::given;
 use crate::given::LIST;
 use crate::given::Signed;
+use crate::lent::BLANK;
+use crate::lent::room_of;
 use crate::record::value;
 use crate::writes;
 use bins::state::Engine;
@@ -62,16 +64,9 @@ pub fn list(s: &[u8], bins: &[u8], component: u32, at: usize) -> usize {
     }
 }
 
-fn into_room(component: u32, z: i32, room: &mut [u8], length: usize) -> Written {
-    if length < room.len() {
-        return write_scale_bins(component, z, &mut room[..length]);
-    }
-    write_scale_bins(component, z, room)
-}
-
 fn written(s: &[u8], component: u32, z: i32, length: usize, at: usize) -> usize {
-    let mut room = [writes::BLANK; LIST];
-    let r = into_room(component, z, &mut room, length);
+    let mut room = [BLANK; LIST];
+    let r = write_scale_bins(component, z, room_of(&mut room, length));
     writes::told(s, at, r, &room)
 }
 

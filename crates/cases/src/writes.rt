@@ -1,6 +1,7 @@
-// Records of the bin writer.
+// Records of the bin writer, and of the plain one (request (xi)).
 //
 //     write levels [skip rdpcm p stats room places] => answer length list stats
+//     plainwrite: the same
 use crate::answer;
 use crate::answer::NONE;
 use crate::answer::same_statistics;
@@ -9,60 +10,33 @@ use crate::given::Chosen;
 use crate::given::LIST;
 use crate::given::PLACES;
 use crate::given::RdpcmGiven;
+use crate::lent::BLANK;
+use crate::lent::first_of;
+use crate::lent::is_blank_from;
+use crate::lent::room_of;
 use crate::record::value;
 use check::same;
 use hevc_block::block::Found;
+use hevc_plain::entries::write_bins_plain;
 use hevc_residual::params::Params;
 use hevc_residual::params::Rdpcm;
 use hevc_writer::entries::Written;
 use hevc_writer::entries::write_bins;
 use text::lines::part;
 
-// What each byte of a room holds before the call.
-pub const BLANK: u8 = 255;
-
-pub fn is_blank_from(room: &[u8; LIST], from: usize) -> bool {
-    let mut i = from;
-    while i < LIST {
-        if room[i] != BLANK {
-            return false;
-        }
-        i += 1;
-    }
-    true
-}
-
-// The room is lent up to a length; whole where that is not less.
-fn into_room(
+fn write_by(
+    plain: bool,
     p: Params,
     stats: &mut [u8; 4],
     block: &[i32],
     skip: bool,
     rdpcm: Rdpcm,
     room: &mut [u8],
-    length: usize,
 ) -> Written {
-    if length < room.len() {
-        return write_bins(p, stats, block, skip, rdpcm, &mut room[..length]);
+    if plain {
+        return write_bins_plain(p, stats, block, skip, rdpcm, room);
     }
     write_bins(p, stats, block, skip, rdpcm, room)
-}
-
-// The block is lent up to a count of places.
-fn from_places(
-    p: Params,
-    stats: &mut [u8; 4],
-    block: &[i32],
-    skip: bool,
-    rdpcm: Rdpcm,
-    room: &mut [u8],
-    length: usize,
-    places: usize,
-) -> Written {
-    if places < block.len() {
-        return into_room(p, stats, &block[..places], skip, rdpcm, room, length);
-    }
-    into_room(p, stats, block, skip, rdpcm, room, length)
 }
 
 // A list at the front of the room, with what stands behind it untouched; a refusal leaves all of it as it was.
@@ -83,6 +57,7 @@ pub fn told(s: &[u8], at: usize, r: Written, room: &[u8; LIST]) -> usize {
 
 fn written(
     s: &[u8],
+    plain: bool,
     p: Params,
     stats: &[u8; 4],
     block: &[i32; PLACES],
@@ -94,7 +69,15 @@ fn written(
 ) -> usize {
     let mut room = [BLANK; LIST];
     let mut left = *stats;
-    let r = from_places(p, &mut left, block, skip, rdpcm, &mut room, length, places);
+    let r = write_by(
+        plain,
+        p,
+        &mut left,
+        first_of(block, places),
+        skip,
+        rdpcm,
+        room_of(&mut room, length),
+    );
     let to = told(s, at, r, &room);
     match r {
         Written::List(_) => answer::statistics(s, to, &left),
@@ -108,7 +91,14 @@ fn written(
 }
 
 // With levels and statistics.
-fn chosen(s: &[u8], stats: &[u8; 4], block: &[i32; PLACES], n: &[u32; 8], at: usize) -> usize {
+fn chosen(
+    s: &[u8],
+    plain: bool,
+    stats: &[u8; 4],
+    block: &[i32; PLACES],
+    n: &[u32; 8],
+    at: usize,
+) -> usize {
     let Chosen::Are(p) = given::params(value(s, b"p")) else {
         return NONE;
     };
@@ -118,21 +108,22 @@ fn chosen(s: &[u8], stats: &[u8; 4], block: &[i32; PLACES], n: &[u32; 8], at: us
     let skip = n[given::SKIP] == 1;
     let length = given::size(n[given::ROOM]);
     let places = given::size(n[given::LENT]);
-    written(s, p, stats, block, skip, rdpcm, length, places, at)
+    written(s, plain, p, stats, block, skip, rdpcm, length, places, at)
 }
 
-pub fn write(s: &[u8], n: &[u32; 8], at: usize) -> usize {
+pub fn write(s: &[u8], plain: bool, n: &[u32; 8], at: usize) -> usize {
     let mut block = [0i32; PLACES];
     let mut stats = [0u8; 4];
     let levels = given::levels(value(s, b"levels"), &mut block);
     if given::lent(value(s, b"stats"), &mut stats) & levels {
-        return chosen(s, &stats, &block, n, at);
+        return chosen(s, plain, &stats, &block, n, at);
     }
     NONE
 }
 
 // Whether the writer makes this list of a block that was read, and leaves the statistics that the reader left.
 pub fn is_list_of(
+    plain: bool,
     p: Params,
     stats: &[u8; 4],
     block: &[i32; PLACES],
@@ -143,7 +134,7 @@ pub fn is_list_of(
     let mut room = [BLANK; LIST];
     let mut left = *stats;
     let rdpcm = f.rdpcm;
-    let r = write_bins(p, &mut left, block, f.skip, rdpcm, &mut room);
+    let r = write_by(plain, p, &mut left, block, f.skip, rdpcm, &mut room);
     let Written::List(n) = r else {
         return false;
     };

@@ -5,28 +5,31 @@ use Rattle.cases.proofs.blocks.levels.Statement.{statement}
 use Rattle.cases.proofs.blocks.levels.Tie as tie
 
 abbrev Inv-loop : tie.InvT-loop
-Inv-loop wanted at block end to₀ none₀ i₀ t8 to none i = i ≤ 1032
+Inv-loop s at block from end to₀ none₀ i₀ t9 to none i = from ≤ i
 
 abbrev μ-loop : tie.MeasureT-loop
-μ-loop wanted at block end to₀ none₀ i₀ t8 to none i = 1032 - i
+μ-loop s at block from end to₀ none₀ i₀ t9 to none i = end - i
 
 loop-holds : tie.Need-loop-holds Inv-loop μ-loop
 loop-holds c = search needs
 
-mul-is-other : tie.Need-mul-is-other Inv-loop μ-loop
-mul-is-other c = search needs
+returns : tie.Need-returns Inv-loop μ-loop
+returns c = search needs
 
-element-copy-out-is-other : tie.Need-element-copy-out-is-other Inv-loop μ-loop
-element-copy-out-is-other c = search needs
+mul-if2 : tie.Need-mul-if2 Inv-loop μ-loop
+mul-if2 c = search needs
 
-is-other-requires : tie.Need-is-other-requires Inv-loop μ-loop
-is-other-requires c κs = search needs
+shared-slice-copy-out-if2 : tie.Need-shared-slice-copy-out-if2 Inv-loop μ-loop
+shared-slice-copy-out-if2 c = search needs
+
+sub-level : tie.Need-sub-level Inv-loop μ-loop
+sub-level c = search needs
 
 mul-level : tie.Need-mul-level Inv-loop μ-loop
 mul-level c = search needs
 
-element-copy-out-level : tie.Need-element-copy-out-level Inv-loop μ-loop
-element-copy-out-level c = search needs
+shared-slice-copy-out-level : tie.Need-shared-slice-copy-out-level Inv-loop μ-loop
+shared-slice-copy-out-level c = search needs
 
 level-requires : tie.Need-level-requires Inv-loop μ-loop
 level-requires c κs = search needs
@@ -46,8 +49,8 @@ slice-aggregate-unless c = search needs
 unless-requires : tie.Need-unless-requires Inv-loop μ-loop
 unless-requires c κs = search needs
 
-returns : tie.Need-returns Inv-loop μ-loop
-returns c = search needs
+returns-2 : tie.Need-returns-2 Inv-loop μ-loop
+returns-2 c = search needs
 
 pub levels-spec : {M : Type 1} → statement M
 levels-spec =
@@ -56,15 +59,16 @@ levels-spec =
     Inv-loop
     μ-loop
     loop-holds
-    mul-is-other
-    element-copy-out-is-other
-    is-other-requires
+    returns
+    mul-if2
+    shared-slice-copy-out-if2
+    sub-level
     mul-level
-    element-copy-out-level
+    shared-slice-copy-out-level
     level-requires
     add-i
     loop-less
     loop-again
     slice-aggregate-unless
     unless-requires
-    returns)
+    returns-2)

@@ -5,10 +5,10 @@ use Rattle.cases.proofs.given.numbers.Statement.{statement}
 use Rattle.cases.proofs.given.numbers.Tie as tie
 
 abbrev Inv-loop : tie.InvT-loop
-Inv-loop s out₀ k₀ t6 out k = k ≤ 8
+Inv-loop s places out₀ k₀ t7 out k = k ≤ 8
 
 abbrev μ-loop : tie.MeasureT-loop
-μ-loop s out₀ k₀ t6 out k = 8 - k
+μ-loop s places out₀ k₀ t7 out k = 8 - k
 
 loop-holds : tie.Need-loop-holds Inv-loop μ-loop
 loop-holds c = search needs

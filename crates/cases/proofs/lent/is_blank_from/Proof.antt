@@ -1,8 +1,8 @@
 -- `is_blank_from` meets its contract. Assumes nothing.
 use Prim.Native.Nat.{_-_}
 use borrow.Author.Needs.{needs}
-use Rattle.cases.proofs.writes.is_blank_from.Statement.{statement}
-use Rattle.cases.proofs.writes.is_blank_from.Tie as tie
+use Rattle.cases.proofs.lent.is_blank_from.Statement.{statement}
+use Rattle.cases.proofs.lent.is_blank_from.Tie as tie
 
 abbrev Inv-loop : tie.InvT-loop
 Inv-loop room from i₀ i = Unit {0}
