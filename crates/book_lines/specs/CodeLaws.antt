@@ -153,7 +153,7 @@ module _ (n b : ℕ) (l : List ℕ) (h : b ≡ lineFeed → ⊥) where
   pub more-state : (m : List ℕ) → m ≡ grown l b → record { number = n; held = m } ≡ stepState (record { number = n; held = l }) b
   more-state m e = ap (at n) e ∙ sym (state-more (at n l) b (ne-eqb b lineFeed h))
 
-  pub more-out : (f : ℕ → Line → List ℕ) → [] ≡ stepOut f (record { number = n; held = l }) b
+  pub more-out : {A : Type 0} (f : ℕ → Line → List A) → [] ≡ stepOut f (record { number = n; held = l }) b
   more-out f = sym (out-none f (at n l) b (ne-eqb b lineFeed h))
 
 module _ (n b : ℕ) (l : List ℕ) (h : b ≡ lineFeed) where
@@ -165,20 +165,20 @@ module _ (n b : ℕ) (l : List ℕ) (h : b ≡ lineFeed) where
   ended-state line k j p q =
       ap (λ (x : ℕ). at x (take j line)) p ∙ ap (λ (x : ℕ). at (n + 1) (take x line)) q ∙ end-state
 
-  pub end-out : (f : ℕ → Line → List ℕ) → f n (ended l) ≡ stepOut f (record { number = n; held = l }) b
+  pub end-out : {A : Type 0} (f : ℕ → Line → List A) → f n (ended l) ≡ stepOut f (record { number = n; held = l }) b
   end-out f = sym (out-end f (at n l) b (eq-eqb b lineFeed h))
 
 -- ---- the end of the text: nothing is held, or an unfinished line
-pub end-none : (f : ℕ → Line → List ℕ) (n held : ℕ) (line : List ℕ) → held ≡ 0 → [] ≡ endOut f (record { number = n; held = take held line })
+pub end-none : {A : Type 0} (f : ℕ → Line → List A) (n held : ℕ) (line : List ℕ) → held ≡ 0 → [] ≡ endOut f (record { number = n; held = take held line })
 unfolding endOut lastLine written
 end-none f n held line e = ap (λ (x : ℕ). endOut f (at n (take x line))) (sym e)
 
-end-some : (f : ℕ → Line → List ℕ) (n : ℕ) (l : List ℕ) → 0 < length l → f n (lineOf l false) ≡ endOut f (record { number = n; held = l })
+end-some : {A : Type 0} (f : ℕ → Line → List A) (n : ℕ) (l : List ℕ) → 0 < length l → f n (lineOf l false) ≡ endOut f (record { number = n; held = l })
 unfolding endOut lastLine written
 end-some f n [] h = absurd (omega arith)
 end-some f n (b ∷ l) h = sym (append-nil (f n (lineOf (b ∷ l) false)))
 
-pub end-open : (f : ℕ → Line → List ℕ) (n held : ℕ) (line : List ℕ) → (held ≡ 0 → ⊥) → held ≤ length line
+pub end-open : {A : Type 0} (f : ℕ → Line → List A) (n held : ℕ) (line : List ℕ) → (held ≡ 0 → ⊥) → held ≤ length line
     → f n (lineOf (take held line) false) ≡ endOut f (record { number = n; held = take held line })
 end-open f n held line h k = end-some f n (take held line) (omega (arith, length-take-le held line k))
 
@@ -192,10 +192,10 @@ module _ (r : Reading) (s : List ℕ) (i : ℕ) where
     unfolding fedState
     fed-next = sym (fed-state r (take i s) (getD s i 0 ∷ [])) ∙ ap (fedState r) up
 
-    pub out-next : (f : ℕ → Line → List ℕ) → fedOut f r (take i s) ++ stepOut f (fedState r (take i s)) (getD s i 0) ≡ fedOut f r (take (i + 1) s)
+    pub out-next : {A : Type 0} (f : ℕ → Line → List A) → fedOut f r (take i s) ++ stepOut f (fedState r (take i s)) (getD s i 0) ≡ fedOut f r (take (i + 1) s)
     unfolding fedOut
-    out-next f =
-        ap (λ (l : List ℕ). fedOut f r (take i s) ++ l) (sym (append-nil (stepOut f (fedState r (take i s)) (getD s i 0))))
+    out-next {A} f =
+        ap (λ (l : List A). fedOut f r (take i s) ++ l) (sym (append-nil (stepOut f (fedState r (take i s)) (getD s i 0))))
         ∙ sym (fed-out f r (take i s) (getD s i 0 ∷ []))
         ∙ ap (fedOut f r) up
 
@@ -203,5 +203,5 @@ module _ (r : Reading) (s : List ℕ) (i : ℕ) where
     pub fed-all : fedState r (take i s) ≡ fedState r s
     fed-all = ap (fedState r) (take-all i s h)
 
-    pub out-all : (f : ℕ → Line → List ℕ) → fedOut f r (take i s) ≡ fedOut f r s
+    pub out-all : {A : Type 0} (f : ℕ → Line → List A) → fedOut f r (take i s) ≡ fedOut f r s
     out-all f = ap (fedOut f r) (take-all i s h)

@@ -22,7 +22,7 @@ unfolding formRefusal firstOf
 form-long l h = rw (lt-leb (length (l .text)) mostDigits h)
 
 -- what of a longer line says the same of each does not hang on bytes behind the 8,469th
-pub clips-by : (f : ℕ → Line → List ℕ) (g : ℕ → List ℕ) → ((n : ℕ) (l : Line) → mostDigits < length (l .text) → f n l ≡ g n) → Clips f
+pub clips-by : {A : Type 0} (f : ℕ → Line → List A) (g : ℕ → List A) → ((n : ℕ) (l : Line) → mostDigits < length (l .text) → f n l ≡ g n) → Clips f
 unfolding mostHeld
 clips-by f g long n l e = go (leb (length l) mostDigits) refl
   where

@@ -16,25 +16,25 @@ unfolding fedState
 fed-state r [] s = refl
 fed-state r (b ∷ a) s = fed-state (stepState r b) a s
 
-pub fed-out : (f : ℕ → Line → List ℕ) (r : Reading) (a s : List ℕ) → fedOut f r (a ++ s) ≡ fedOut f r a ++ fedOut f (fedState r a) s
+pub fed-out : {A : Type 0} (f : ℕ → Line → List A) (r : Reading) (a s : List ℕ) → fedOut f r (a ++ s) ≡ fedOut f r a ++ fedOut f (fedState r a) s
 unfolding fedOut fedState
 fed-out f r [] s = refl
-fed-out f r (b ∷ a) s =
-    ap (λ (l : List ℕ). stepOut f r b ++ l) (fed-out f (stepState r b) a s)
+fed-out {A} f r (b ∷ a) s =
+    ap (λ (l : List A). stepOut f r b ++ l) (fed-out f (stepState r b) a s)
     ∙ sym (append-assoc (stepOut f r b) (fedOut f (stepState r b) a) (fedOut f (fedState (stepState r b) a) s))
 
-pub pieces-one : (f : ℕ → Line → List ℕ) (r : Reading) (cs : List (List ℕ))
+pub pieces-one : {A : Type 0} (f : ℕ → Line → List A) (r : Reading) (cs : List (List ℕ))
     → piecesOut f r cs ≡ fedOut f r (joined cs) ++ endOut f (fedState r (joined cs))
 unfolding piecesOut joined fedOut fedState
 pieces-one f r [] = refl
-pieces-one f r (c ∷ cs) =
-    ap (λ (l : List ℕ). fedOut f r c ++ l) (pieces-one f (fedState r c) cs)
+pieces-one {A} f r (c ∷ cs) =
+    ap (λ (l : List A). fedOut f r c ++ l) (pieces-one f (fedState r c) cs)
     ∙ sym (append-assoc (fedOut f r c) (fedOut f (fedState r c) (joined cs)) (endOut f (fedState (fedState r c) (joined cs))))
-    ∙ ap (λ (l : List ℕ). l ++ endOut f (fedState (fedState r c) (joined cs))) (sym (fed-out f r c (joined cs)))
+    ∙ ap (λ (l : List A). l ++ endOut f (fedState (fedState r c) (joined cs))) (sym (fed-out f r c (joined cs)))
     ∙ ap (λ (q : Reading). fedOut f r (c ++ joined cs) ++ endOut f q) (sym (fed-state r c (joined cs)))
 
 -- ---- what f says does not hang on bytes behind the 8,469th
-abbrev pub Clips : (ℕ → Line → List ℕ) → Type 0
+abbrev pub Clips : {A : Type 0} → (ℕ → Line → List A) → Type 0
 Clips f = (n : ℕ) (l : List ℕ) (e : Bool) → f n (record { text = take mostHeld l; finished = e }) ≡ f n (record { text = l; finished = e })
 
 take-more : (k : ℕ) (h x : List ℕ) → take k (take k h ++ x) ≡ take k (h ++ x)
@@ -43,7 +43,7 @@ take-more (suc k) [] x = refl
 take-more (suc k) (b ∷ h) x = ap (λ (l : List ℕ). b ∷ l) (take-more k h x)
 
 -- ---- one byte
-module _ (f : ℕ → Line → List ℕ) (r : Reading) (b : ℕ) where
+module _ {A : Type 0} (f : ℕ → Line → List A) (r : Reading) (b : ℕ) where
   pub out-end : eqb b lineFeed ≡ true → stepOut f r b ≡ f (r .number) (ended (r .held))
   unfolding stepOut
   out-end q = rw q
@@ -61,10 +61,10 @@ unfolding stepState
 state-more r b q = rw q
 
 -- all that is written of a text, from a state
-abbrev pub rest : (ℕ → Line → List ℕ) → Reading → List ℕ → List ℕ
+abbrev pub rest : {A : Type 0} → (ℕ → Line → List A) → Reading → List ℕ → List A
 rest f r s = fedOut f r s ++ endOut f (fedState r s)
 
-rest-step : (f : ℕ → Line → List ℕ) (r : Reading) (b : ℕ) (s : List ℕ) → rest f r (b ∷ s) ≡ stepOut f r b ++ rest f (stepState r b) s
+rest-step : {A : Type 0} (f : ℕ → Line → List A) (r : Reading) (b : ℕ) (s : List ℕ) → rest f r (b ∷ s) ≡ stepOut f r b ++ rest f (stepState r b) s
 unfolding fedOut fedState
 rest-step f r b s = append-assoc (stepOut f r b) (fedOut f (stepState r b) s) (endOut f (fedState (stepState r b) s))
 
@@ -80,11 +80,11 @@ module _ (b : ℕ) (h s : List ℕ) where
 abbrev clipped : ℕ → List ℕ → Reading
 clipped n h = record { number = n; held = take mostHeld h }
 
-module _ (f : ℕ → Line → List ℕ) (c : Clips f) where
+module _ {A : Type 0} (f : ℕ → Line → List A) (c : Clips f) where
   last-clipped : (n : ℕ) (h : List ℕ) → endOut f (clipped n h) ≡ written f n (lastLine h)
   unfolding endOut lastLine written mostHeld
   last-clipped n [] = refl
-  last-clipped n (b ∷ h) = ap (λ (l : List ℕ). l ++ []) (c n (b ∷ h) false)
+  last-clipped n (b ∷ h) = ap (λ (l : List A). l ++ []) (c n (b ∷ h) false)
 
   whole-end : (n b : ℕ) (h s : List ℕ) → eqb b lineFeed ≡ true → rest f (clipped (suc n) []) s ≡ written f (suc n) (linesFrom [] s)
       → rest f (clipped n h) (b ∷ s) ≡ written f n (linesFrom h (b ∷ s))
@@ -93,9 +93,9 @@ module _ (f : ℕ → Line → List ℕ) (c : Clips f) where
       let e : clipped (suc n) [] ≡ stepState (clipped n h) b =
       ap (λ (l : List ℕ). record { number = suc n; held = l }) (take-nil mostHeld) ∙ sym (state-end (clipped n h) b q) in
       rest-step f (clipped n h) b s
-      ∙ ap (λ (l : List ℕ). l ++ rest f (stepState (clipped n h) b) s) (out-end f (clipped n h) b q ∙ c n h true)
+      ∙ ap (λ (l : List A). l ++ rest f (stepState (clipped n h) b) s) (out-end f (clipped n h) b q ∙ c n h true)
       ∙ ap (λ (x : Reading). f n (ended h) ++ rest f x s) (sym e)
-      ∙ ap (λ (l : List ℕ). f n (ended h) ++ l) i
+      ∙ ap (λ (l : List A). f n (ended h) ++ l) i
       ∙ ap (written f n) (sym (lines-end b h s q))
 
   whole-more : (n b : ℕ) (h s : List ℕ) → eqb b lineFeed ≡ false
@@ -106,7 +106,7 @@ module _ (f : ℕ → Line → List ℕ) (c : Clips f) where
       let e : stepState (clipped n h) b ≡ clipped n (h ++ (b ∷ [])) =
       state-more (clipped n h) b q ∙ ap (λ (l : List ℕ). record { number = n; held = l }) (take-more mostHeld h (b ∷ [])) in
       rest-step f (clipped n h) b s
-      ∙ ap (λ (l : List ℕ). l ++ rest f (stepState (clipped n h) b) s) (out-none f (clipped n h) b q)
+      ∙ ap (λ (l : List A). l ++ rest f (stepState (clipped n h) b) s) (out-none f (clipped n h) b q)
       ∙ ap (λ (x : Reading). rest f x s) e
       ∙ i
       ∙ ap (written f n) (sym (lines-more b h s q))

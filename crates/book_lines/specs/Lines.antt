@@ -32,10 +32,10 @@ linesFrom held (b ∷ s) = cond (eqb b lineFeed) (ended held ∷ linesFrom [] s)
 abbrev pub lines : List ℕ → List Line
 lines s = linesFrom [] s
 
--- what a program writes: of each line what f says, by its number, from 1, and its bytes
-unfoldable pub written : (ℕ → Line → List ℕ) → ℕ → List Line → List ℕ
+-- what a program writes, or takes down: of each line what f says, by its number, from 1, and its bytes
+unfoldable pub written : {A : Type 0} → (ℕ → Line → List A) → ℕ → List Line → List A
 written f n [] = []
 written f n (l ∷ ls) = f n l ++ written f (suc n) ls
 
-abbrev pub program : (ℕ → Line → List ℕ) → List ℕ → List ℕ
+abbrev pub program : {A : Type 0} → (ℕ → Line → List A) → List ℕ → List A
 program f s = written f 1 (lines s)

@@ -35,7 +35,7 @@ unfolding grown
 stepState r b =
     cond (eqb b lineFeed) (record { number = suc (r .number); held = [] }) (record { number = r .number; held = grown (r .held) b })
 
-unfoldable pub stepOut : (ℕ → Line → List ℕ) → Reading → ℕ → List ℕ
+unfoldable pub stepOut : {A : Type 0} → (ℕ → Line → List A) → Reading → ℕ → List A
 stepOut f r b = cond (eqb b lineFeed) (f (r .number) (ended (r .held))) []
 
 -- ---- a piece of the text
@@ -44,18 +44,18 @@ unfolding stepState
 fedState r [] = r
 fedState r (b ∷ s) = fedState (stepState r b) s
 
-unfoldable pub fedOut : (ℕ → Line → List ℕ) → Reading → List ℕ → List ℕ
+unfoldable pub fedOut : {A : Type 0} → (ℕ → Line → List A) → Reading → List ℕ → List A
 unfolding stepState stepOut
 fedOut f r [] = []
 fedOut f r (b ∷ s) = stepOut f r b ++ fedOut f (stepState r b) s
 
 -- ---- the end of the text
-unfoldable pub endOut : (ℕ → Line → List ℕ) → Reading → List ℕ
+unfoldable pub endOut : {A : Type 0} → (ℕ → Line → List A) → Reading → List A
 unfolding written lastLine
 endOut f r = written f (r .number) (lastLine (r .held))
 
 -- ---- piece after piece, then the end: all that is written, one after the other
-unfoldable pub piecesOut : (ℕ → Line → List ℕ) → Reading → List (List ℕ) → List ℕ
+unfoldable pub piecesOut : {A : Type 0} → (ℕ → Line → List A) → Reading → List (List ℕ) → List A
 unfolding fedState fedOut endOut
 piecesOut f r [] = endOut f r
 piecesOut f r (c ∷ cs) = fedOut f r c ++ piecesOut f (fedState r c) cs

@@ -26,7 +26,7 @@ use Rattle.hevc_reader.specs.EntriesAgree.{payloadRead}
 use Rattle.frame.specs.declared.judge.Verdict.{Verdict}
 use Rattle.frame.specs.declared.judge.Verdict.the-variants as ofVerdict
 use Rattle.frame.specs.Frame.{payloadOf, valuesOf, byteOf, quantiserOf, paramsOf, flagsRefusal}
-use Rattle.frame.specs.Verdict.{noLevels, checksOf, readVerdict, startedVerdict, verdictBy, verdict}
+use Rattle.frame.specs.Verdict.{noLevels, checksOf, readVerdict, readFrom, startedVerdict, verdictBy, verdict, startedLevels, levelsBy, levelsOf}
 
 -- ---- a frame's parts
 pub tail-is : (bytes : List ℕ) → take (length bytes - 138) (drop 138 bytes) ≡ payloadOf bytes
@@ -103,10 +103,32 @@ unfolding verdictBy
 no-is zero bytes h = absurd (h refl)
 no-is (suc m) bytes h = refl
 
+none-by : (m : ℕ) (bytes : List ℕ) → (m ≡ 0 → ⊥) → noLevels ≡ levelsBy m bytes
+unfolding levelsBy
+none-by zero bytes h = absurd (h refl)
+none-by (suc m) bytes h = refl
+
 module _ (bytes : List ℕ) (n : ℕ) (e : n ≡ checksOf bytes) where
   pub verdict-checks : (n ≡ 0 → ⊥) → ofVerdict.No n ≡ verdict bytes
   unfolding verdict
   verdict-checks h = no-is n bytes h ∙ ap (λ (x : ℕ). verdictBy x bytes) e
+
+  pub levels-checks : (n ≡ 0 → ⊥) → noLevels ≡ levelsOf bytes
+  unfolding levelsOf
+  levels-checks h = none-by n bytes h ∙ ap (λ (x : ℕ). levelsBy x bytes) e
+
+  levels-behind : n ≡ 0 → startedLevels bytes (start (payloadOf bytes)) ≡ levelsOf bytes
+  unfolding levelsOf levelsBy
+  levels-behind z = ap (λ (x : ℕ). levelsBy x bytes) (sym z ∙ e)
+
+  pub levels-ready : (s : State) (x : Engine) (b : List ℤ) → n ≡ 0 → stateSays s ≡ start (payloadOf bytes) → s ≡ ofState.Ready x → b ≡ startedLevels bytes (accepted x)
+      → b ≡ levelsOf bytes
+  levels-ready s x b z q r w =
+      w ∙ ap (startedLevels bytes) (ap stateSays (sym r) ∙ q) ∙ levels-behind z
+
+  pub levels-refused : (s : State) (m : ℕ) → n ≡ 0 → stateSays s ≡ start (payloadOf bytes) → s ≡ ofState.Refused m → noLevels ≡ levelsOf bytes
+  unfolding startedLevels
+  levels-refused s m z q r = ap (startedLevels bytes) (ap stateSays (sym r) ∙ q) ∙ levels-behind z
 
   verdict-behind : n ≡ 0 → startedVerdict bytes (start (payloadOf bytes)) ≡ verdict bytes
   unfolding verdict verdictBy
@@ -137,30 +159,38 @@ statistics-zero n ss z = ap (λ (x : ℕ). statisticsAfter x ss) z
 -- what the reader's call is handed, and what it answers
 module _ (bytes cs ss cs′ ss′ cs″ ss″ : List ℕ) (b″ : List ℤ) (n : ℕ) (p : Params) (e : Engine) (h : 138 ≤ length bytes)
     (i : n ≡ valuesRefusal (valuesOf bytes)) (j : cs′ ≡ contextsAfter n cs (valuesOf bytes) (quantiserOf bytes)) (k : ss′ ≡ statisticsAfter n ss)
-    (g : p ≡ paramsOf bytes) (P : List ℕ) (w : P ≡ payloadOf bytes) where
+    (g : p ≡ paramsOf bytes) (P : List ℕ) (w : P ≡ payloadOf bytes) (b : List ℤ) (v : b ≡ noLevels) where
   zero-is : n ≡ 0
   zero-is = i ∙ values-all bytes h
 
-  handed : (r : Read) → payloadRead r cs″ ss″ b″ ≡ readPayload P e cs′ ss′ p noLevels
-      → payloadRead r cs″ ss″ b″ ≡ readPayload (payloadOf bytes) e (initialAll (quantiserOf bytes) (valuesOf bytes)) (replicate 4 0) (paramsOf bytes) noLevels
+  handed : (r : Read) → payloadRead r cs″ ss″ b″ ≡ readPayload P e cs′ ss′ p b → payloadRead r cs″ ss″ b″ ≡ readFrom bytes e
   handed r q =
       q
+      ∙ ap (λ (x : List ℤ). readPayload P e cs′ ss′ p x) v
       ∙ ap (λ (x : List ℕ). readPayload x e cs′ ss′ p noLevels) w
       ∙ ap (λ (x : List ℕ). readPayload (payloadOf bytes) e x ss′ p noLevels) (j ∙ contexts-zero n cs (valuesOf bytes) (quantiserOf bytes) zero-is)
       ∙ ap (λ (x : List ℕ). readPayload (payloadOf bytes) e (initialAll (quantiserOf bytes) (valuesOf bytes)) x p noLevels) (k ∙ statistics-zero n ss zero-is)
       ∙ ap (λ (x : Params). readPayload (payloadOf bytes) e (initialAll (quantiserOf bytes) (valuesOf bytes)) (replicate 4 0) x noLevels) g
 
-  says : (r : Read) → payloadRead r cs″ ss″ b″ ≡ readPayload P e cs′ ss′ p noLevels
+  says : (r : Read) → payloadRead r cs″ ss″ b″ ≡ readPayload P e cs′ ss′ p b
       → readVerdict (payloadRead r cs″ ss″ b″ .answer) ≡ startedVerdict bytes (accepted e)
   unfolding startedVerdict
   says r q = ap (λ (x : PayloadRead). readVerdict (x .answer)) (handed r q)
 
-  pub read-ok : (r : Read) (f : Found) (x : Engine) → payloadRead r cs″ ss″ b″ ≡ readPayload P e cs′ ss′ p noLevels
-      → r ≡ ofRead.Block f x → ofVerdict.Ok (f .greatest) (x .past) ≡ startedVerdict bytes (accepted e)
-  unfolding readVerdict
-  read-ok r f x q u = ap (λ (z : Read). readVerdict (payloadRead z cs″ ss″ b″ .answer)) (sym u) ∙ says r q
+  leaves : (r : Read) → payloadRead r cs″ ss″ b″ ≡ readPayload P e cs′ ss′ p b → b″ ≡ startedLevels bytes (accepted e)
+  unfolding startedLevels
+  leaves r q = block-of r ∙ ap (λ (x : PayloadRead). x .block) (handed r q)
+    where
+      block-of : (r : Read) → b″ ≡ payloadRead r cs″ ss″ b″ .block
+      block-of (ofRead.Block f x) = refl
+      block-of (ofRead.Refused n) = refl
 
-  pub read-no : (r : Read) (m : ℕ) → payloadRead r cs″ ss″ b″ ≡ readPayload P e cs′ ss′ p noLevels
-      → r ≡ ofRead.Refused m → ofVerdict.No m ≡ startedVerdict bytes (accepted e)
+  pub read-ok : (r : Read) (f : Found) (x : Engine) → payloadRead r cs″ ss″ b″ ≡ readPayload P e cs′ ss′ p b
+      → r ≡ ofRead.Block f x → (ofVerdict.Ok (f .greatest) (x .past) ≡ startedVerdict bytes (accepted e)) × (b″ ≡ startedLevels bytes (accepted e))
   unfolding readVerdict
-  read-no r m q u = ap (λ (z : Read). readVerdict (payloadRead z cs″ ss″ b″ .answer)) (sym u) ∙ says r q
+  read-ok r f x q u = (ap (λ (z : Read). readVerdict (payloadRead z cs″ ss″ b″ .answer)) (sym u) ∙ says r q, leaves r q)
+
+  pub read-no : (r : Read) (m : ℕ) → payloadRead r cs″ ss″ b″ ≡ readPayload P e cs′ ss′ p b
+      → r ≡ ofRead.Refused m → (ofVerdict.No m ≡ startedVerdict bytes (accepted e)) × (b″ ≡ startedLevels bytes (accepted e))
+  unfolding readVerdict
+  read-no r m q u = (ap (λ (z : Read). readVerdict (payloadRead z cs″ ss″ b″ .answer)) (sym u) ∙ says r q, leaves r q)

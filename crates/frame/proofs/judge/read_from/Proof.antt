@@ -32,9 +32,6 @@ part-residual-coding-start c = search needs
 part-residual-coding-end : tie.Need-part-residual-coding-end
 part-residual-coding-end c = search needs
 
-slice-aggregate-residual-coding : tie.Need-slice-aggregate-residual-coding
-slice-aggregate-residual-coding c = search needs
-
 residual-coding-requires : tie.Need-residual-coding-requires
 residual-coding-requires c κs = search needs
 
@@ -46,23 +43,25 @@ enum-known-r-2 c = search needs
 
 returns : tie.Need-returns
 returns c =
-    let at-residual-coding = c .before .before .before .before in
+    let at-residual-coding = c .before .before .before in
     let at-init-contexts = at-residual-coding .before .before .before .before .before in
     let at-params = at-init-contexts .before .before .before .before .before in
     let at-start = at-params .before .before in
     let a = at-start .args in
     let i = at-init-contexts .init-contexts .ensures in
-    read-ok (a .bytes .now) _ _ _ _ _ _ _ _ _ (a .e) (omega arith) (i .0) (i .1) (i .2) (at-params .params .ensures) _ (tail-is (a .bytes .now)) _ _ _ (at-residual-coding .residual-coding .ensures) (c .before .r .given .1)
+    read-ok (a .bytes .now) _ _ _ _ _ _ _ _ _ (a .e) (omega arith) (i .0) (i .1) (i .2) (at-params .params .ensures) _ (tail-is (a .bytes .now)) _ (at-start .pre .1) _ _ _
+    (at-residual-coding .residual-coding .ensures) (c .before .r .given .1)
 
 returns-2 : tie.Need-returns-2
 returns-2 c =
-    let at-residual-coding = c .before .before .before .before in
+    let at-residual-coding = c .before .before .before in
     let at-init-contexts = at-residual-coding .before .before .before .before .before in
     let at-params = at-init-contexts .before .before .before .before .before in
     let at-start = at-params .before .before in
     let a = at-start .args in
     let i = at-init-contexts .init-contexts .ensures in
-    read-no (a .bytes .now) _ _ _ _ _ _ _ _ _ (a .e) (omega arith) (i .0) (i .1) (i .2) (at-params .params .ensures) _ (tail-is (a .bytes .now)) _ _ (at-residual-coding .residual-coding .ensures) (c .before .r2 .given .1)
+    read-no (a .bytes .now) _ _ _ _ _ _ _ _ _ (a .e) (omega arith) (i .0) (i .1) (i .2) (at-params .params .ensures) _ (tail-is (a .bytes .now)) _ (at-start .pre .1) _ _
+    (at-residual-coding .residual-coding .ensures) (c .before .r2 .given .1)
 
 pub read-from-spec : {M : Type 1} → statement M
 read-from-spec =
@@ -77,7 +76,6 @@ read-from-spec =
     sub-residual-coding
     part-residual-coding-start
     part-residual-coding-end
-    slice-aggregate-residual-coding
     residual-coding-requires
     enum-known-r
     enum-known-r-2

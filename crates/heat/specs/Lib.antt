@@ -1,0 +1,2 @@
+pub mod Heat
+pub mod HeatLaws

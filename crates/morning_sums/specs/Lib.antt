@@ -1,0 +1,4 @@
+pub mod Sums
+pub mod Agree
+pub mod SumLaws
+pub mod CodeLaws
