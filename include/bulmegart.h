@@ -456,6 +456,22 @@ bulmegart_write_answer bulmegart_pack_bins(const uint8_t contexts[BULMEGART_CONT
 bulmegart_write_answer bulmegart_pack_scale(const uint8_t contexts[BULMEGART_CONTEXTS], uint32_t component, const uint8_t *list, size_t length,
                                             uint8_t *room, size_t room_length);
 
+typedef struct {
+    uint32_t number;
+    size_t done;    /* how many lists were read: where the number is 13, the one behind them is refused, or bytes are left behind all of them; 0 after 4 and 3 */
+    size_t length;  /* the payload's; 0 after a refusal */
+} bulmegart_pack_tray_answer;
+
+/* The lists of a tray's blocks, one after the other in one buffer with nothing between them, as one payload: contexts and statistics are carried on from
+ * list to list, and the flush is one. Each list ends where its block does, so no lengths are handed in. bulmegart_read_tray with the same records, contexts
+ * and statistics, on the state that bulmegart_start gives, does every block and gives what the lists hold. records_length counts records, length bytes.
+ * No records and no bytes are a payload with nothing in it. A room of (length / 2 * 7 + 16) / 8 bytes is never too small.
+ * 4 (a flag above 1; more than BULMEGART_TRAY_MOST records; any record out of its limits), 3 (contexts, statistics), 13, 12 exactly if the payload is longer
+ * than the room. */
+bulmegart_pack_tray_answer bulmegart_pack_tray(const uint8_t contexts[BULMEGART_CONTEXTS], const uint8_t statistics[BULMEGART_STATISTICS],
+                                               const bulmegart_record *records, size_t records_length, const uint8_t *lists, size_t length,
+                                               uint8_t *room, size_t room_length);
+
 /* ---- the book of test pieces: text, a frame a line, answered a line each: `N ok GREATEST PAST` or `N no NUMBER`, N the line's number */
 
 /* What a piece of a book, or its end, gave: the line that is being read, by its number, from 1, and how many of its bytes the buffer holds; and how
@@ -611,6 +627,12 @@ bulmegart_h264_list_answer bulmegart_h264_read_bins(const uint8_t *list, size_t 
  * Accepted: the list at the front of the room, which is untouched beyond it. Refused: untouched. */
 bulmegart_write_answer bulmegart_h264_write_bins(const int32_t *levels, size_t levels_length, uint8_t *room, size_t room_length);
 
+/* A list as a payload in the room, as bulmegart_pack_bins has it: the contexts are read only, and bulmegart_start, then bulmegart_h264_residual_block with the
+ * same contexts give what the list holds. 3, 13 if bulmegart_h264_read_bins refuses the list by 8 or 13, 12 exactly if the payload is longer than the room.
+ * A room of (length / 2 * 7 + 16) / 8 bytes is never too small. Accepted: the room is untouched beyond the payload. Refused: untouched. */
+bulmegart_write_answer bulmegart_h264_pack_bins(const uint8_t contexts[BULMEGART_H264_CONTEXTS], const uint8_t *list, size_t length, uint8_t *room,
+                                                size_t room_length);
+
 #ifdef __cplusplus
 }
 #endif
@@ -714,6 +736,10 @@ BULMEGART_AT(tray_answer, number, 0);
 BULMEGART_AT(tray_answer, done, 8);
 BULMEGART_AT(tray_answer, state, 16);
 BULMEGART_SIZE(tray_answer, 40);
+BULMEGART_AT(pack_tray_answer, number, 0);
+BULMEGART_AT(pack_tray_answer, done, 8);
+BULMEGART_AT(pack_tray_answer, length, 16);
+BULMEGART_SIZE(pack_tray_answer, 24);
 BULMEGART_AT(book_answer, number, 0);
 BULMEGART_AT(book_answer, line, 8);
 BULMEGART_AT(book_answer, held, 16);

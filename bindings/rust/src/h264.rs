@@ -64,6 +64,8 @@ extern "C" {
     pub fn bulmegart_h264_read_bins(list: *const u8, length: usize, levels: *mut i32, levels_length: usize) -> RawH264ListAnswer;
     /// See [`write_bins`].
     pub fn bulmegart_h264_write_bins(levels: *const i32, levels_length: usize, room: *mut u8, room_length: usize) -> RawWriteAnswer;
+    /// See [`pack_bins`].
+    pub fn bulmegart_h264_pack_bins(contexts: *const u8, list: *const u8, length: usize, room: *mut u8, room_length: usize) -> RawWriteAnswer;
 }
 
 /// Contexts from 40 pairs m, n, one after the other, m before n; a QP above 51 counts as 51. Refusal: 4 unless there are 80 numbers, each −128 to
@@ -99,5 +101,22 @@ pub fn read_bins(list: &[u8], levels: &mut [i32]) -> Result<u32, Refusal> {
 /// exactly when one does and it does not fit the room.
 pub fn write_bins(levels: &[i32], room: &mut [u8]) -> Result<usize, Refusal> {
     let r = unsafe { bulmegart_h264_write_bins(levels.as_ptr(), levels.len(), room.as_mut_ptr(), room.len()) };
+    accepted(r.number, r.length)
+}
+
+/// A list as a payload at the front of the room; [`residual_block`] with the same contexts reads it back. Answers its length; the room beyond it is
+/// untouched. [`payload_bound`](crate::payload_bound) of the list's length is never too small a room.
+///
+/// ```
+/// use bulmegart::h264::{pack_bins, CONTEXTS};
+///
+/// let mut room = [0; 8];
+/// assert_eq!(pack_bins(&[64; CONTEXTS], &[1, 0, 31, 0, 62, 0, 4, 1], &mut room), Ok(2));
+/// assert_eq!(room[..2], [0x36, 0xf0]);
+/// ```
+///
+/// Refusals, with the room untouched: 3 (contexts), 13 if [`read_bins`] refuses the list by 8 or 13, 12 exactly if the payload is longer than the room.
+pub fn pack_bins(contexts: &[u8; CONTEXTS], list: &[u8], room: &mut [u8]) -> Result<usize, Refusal> {
+    let r = unsafe { bulmegart_h264_pack_bins(contexts.as_ptr(), list.as_ptr(), list.len(), room.as_mut_ptr(), room.len()) };
     accepted(r.number, r.length)
 }

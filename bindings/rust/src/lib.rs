@@ -50,7 +50,7 @@ pub mod swap;
 mod tray;
 
 pub use book::Book;
-pub use pack::{longest_payload, pack_bins, pack_scale};
+pub use pack::{bulmegart_pack_tray, longest_payload, pack_bins, pack_scale, pack_tray, payload_bound, PackedTray, RawPackTrayAnswer};
 pub use press::press;
 use raw::*;
 pub use reader::Reader;

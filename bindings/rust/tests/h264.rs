@@ -109,3 +109,25 @@ fn contexts_from_pairs() {
     }
     assert_eq!(contexts, [7; CONTEXTS]);
 }
+
+/// A list as a payload, read back; and what a refusal leaves.
+#[test]
+fn packed() {
+    let bins = list(&[1, 31, 62, 260]);
+    let mut room = [0xa5; 4];
+    assert_eq!((pack_bins(&[64; CONTEXTS], &bins, &mut room), room), (Ok(2), [0x36, 0xf0, 0xa5, 0xa5]));
+    let mut longest = [0; LONGEST_LIST];
+    let n = write_bins(&[-32768; PLACES], &mut longest).unwrap();
+    let mut room = vec![0; bulmegart::payload_bound(n)];
+    let length = pack_bins(&[64; CONTEXTS], &longest[..n], &mut room).unwrap();
+    let payload = &room[..length];
+    let (mut contexts, mut read) = ([64; CONTEXTS], [7; PLACES]);
+    let (greatest, state) = residual_block(payload, start(payload).unwrap(), &mut contexts, &mut read).unwrap();
+    assert_eq!((greatest, read, state.past), (32768, [-32768; PLACES], 0));
+    assert!(bulmegart::decode_terminate(payload, state).unwrap().0);
+    let mut held = [0xa5; 1];
+    assert_eq!(pack_bins(&[64; CONTEXTS], &bins, &mut held), Err(ShortRoom));
+    assert_eq!(pack_bins(&[64; CONTEXTS], &bins[..6], &mut held), Err(BadList));
+    assert_eq!(pack_bins(&[128; CONTEXTS], &bins[..6], &mut held), Err(ImpossibleState));
+    assert_eq!(held, [0xa5; 1]);
+}

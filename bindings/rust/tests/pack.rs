@@ -88,3 +88,34 @@ fn scales() {
     assert_eq!(pack_scale(&[64; CONTEXTS], 1, &[], &mut room), Err(BadList));
     assert_eq!(pack_scale(&[64; CONTEXTS], 0, &list(&[240]), &mut []), Err(ShortRoom));
 }
+
+/// Two blocks in one payload: what the lists hold, from one call of the tray's reader.
+#[test]
+fn trays() {
+    let one = list(&[0, 0x24, 0xaa, 260]);
+    let less = list(&[0, 0x24, 0xaa, 261]);
+    let both = [&one[..], &less[..]].concat();
+    let records = [Record::from(Params::plain(2)); 2];
+    let pack = |records: &[Record], lists: &[u8], room: &mut [u8]| pack_tray(&[64; CONTEXTS], &[0; 4], records, lists, room);
+    let mut room = [HELD; 9];
+    assert_eq!(pack(&records, &both, &mut room), PackedTray { done: 2, length: Ok(3) });
+    assert_eq!(room, [0xe2, 0xdf, 0x80, HELD, HELD, HELD, HELD, HELD, HELD]);
+    let payload = &room[..3];
+    let (mut contexts, mut statistics, mut levels, mut found) = ([64; CONTEXTS], [0; 4], [7; 32], [TrayFound::default(); 2]);
+    let tray = read_tray(payload, start(payload).unwrap(), &mut contexts, &mut statistics, &records, &mut levels, &mut found);
+    assert_eq!((tray.done, tray.refusal, levels[0], levels[16], tray.state.past), (2, None, 1, -1, 0));
+    assert!(decode_terminate(payload, tray.state).unwrap().0);
+    // a list too few, one too many, a bad one in the second place; 12 by one byte; 4 and 3 before them
+    let mut held = [HELD; 9];
+    assert_eq!(pack(&records, &one, &mut held), PackedTray { done: 1, length: Err(BadList) });
+    assert_eq!(pack(&records[..1], &both, &mut held), PackedTray { done: 1, length: Err(BadList) });
+    assert_eq!(pack(&records, &[&one[..], &less[..6]].concat(), &mut held), PackedTray { done: 1, length: Err(BadList) });
+    assert_eq!(pack(&records, &both, &mut held[..2]), PackedTray { done: 2, length: Err(ShortRoom) });
+    let flag = Record { luma: 2, ..records[0] };
+    assert_eq!(pack(&[records[0], flag], &both, &mut held), PackedTray { done: 0, length: Err(BadParameter) });
+    assert_eq!(pack(&[records[0]; TRAY_MOST + 1], &both, &mut held), PackedTray { done: 0, length: Err(BadParameter) });
+    assert_eq!(pack_tray(&[128; CONTEXTS], &[0; 4], &records, &both, &mut held), PackedTray { done: 0, length: Err(ImpossibleState) });
+    assert_eq!(held, [HELD; 9]);
+    // nothing in it: the flush alone
+    assert_eq!(pack(&[], &[], &mut held), PackedTray { done: 0, length: Ok(2) });
+}

@@ -37,13 +37,13 @@ use Rattle.cabac_context.specs.declared.context.Bit.{Bit}
 use Rattle.cabac_context.specs.declared.context.Bit.the-variants as ofBit
 
 -- ---- accepted is not refused, and each says what it holds
-no-both : {A X : Type 0} (a : A) (n : ℕ) → accepted a ≡ refused n → X
+pub no-both : {A X : Type 0} (a : A) (n : ℕ) → accepted a ≡ refused n → X
 no-both a n q = let z : _≡_ {A = ℕ} 0 1 = cc in absurd (omega arith)
 
-same-yes : {A : Type 0} (a b : A) → accepted a ≡ accepted b → a ≡ b
+pub same-yes : {A : Type 0} (a b : A) → accepted a ≡ accepted b → a ≡ b
 same-yes a b q = cc
 
-same-no : {A : Type 0} (m n : ℕ) → _≡_ {A = Answer A} (refused m) (refused n) → m ≡ n
+pub same-no : {A : Type 0} (m n : ℕ) → _≡_ {A = Answer A} (refused m) (refused n) → m ≡ n
 same-no m n q = cc
 
 -- ---- cabac

@@ -12,7 +12,7 @@ ghost use Rattle.bulmegart_blocks.specs.Lists.{writeGiven};
 ghost use Rattle.hevc_packer.specs.Entries.{packScale};
 ghost use Rattle.bulmegart_pack.specs.Packed.{packingAnswer, packLeft, packSeen, packBlock};
 
-fn pack_answer(r: Packing) -> WriteAnswer
+pub fn pack_answer(r: Packing) -> WriteAnswer
     ensures { λ a. ⌜ a ≡ writeGiven (packingAnswer r) ⌝ }
 {
     match r {

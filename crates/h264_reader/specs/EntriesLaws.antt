@@ -62,7 +62,7 @@ module _ (l : List ℕ) where
   unfolding contextsRefusal
   contexts-end i h q = let d : drop i l ≡ [] = drop-of-length-le l h in sym (ap contextsRefusal d) ∙ q
 
-contexts-packed : (l : List ℕ) → 0 ≡ contextsRefusal l → Packed l
+pub contexts-packed : (l : List ℕ) → 0 ≡ contextsRefusal l → Packed l
 unfolding contextsRefusal contextRefusal
 contexts-packed [] q i = omega arith
 contexts-packed (c ∷ l) q zero = go (ltb 127 c) refl (or-else-zero (contextRefusal c) (contextsRefusal l) q .0)

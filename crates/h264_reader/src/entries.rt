@@ -37,7 +37,7 @@ fn block_refusal(block: &[i32]) -> u32
 }
 
 // 3
-fn contexts_refusal(contexts: &[u8]) -> u32
+pub fn contexts_refusal(contexts: &[u8]) -> u32
     ensures { λ r. ⌜ r ≡ contextsRefusal (now (contexts .entry)) ⌝ }
 {
     let mut i: usize = 0;

@@ -70,7 +70,7 @@ between {S} {B} {A} src t f s c r q = go (run src t s) refl (sym (run-bind src t
     go (Out.no n m) e q = let z : _≡_ {A = ℕ} 0 1 = cc in absurd (omega arith)
 
 -- a block and those behind it
-split-blocks : {S : Type 0} (src : Source S) (p : Params) (ps : List Params) (stats : List ℕ) (s : S) (bs : List Block) (r : S) → run src (blocksS (p ∷ ps) stats) s ≡ Out.ok bs r
+pub split-blocks : {S : Type 0} (src : Source S) (p : Params) (ps : List Params) (stats : List ℕ) (s : S) (bs : List Block) (r : S) → run src (blocksS (p ∷ ps) stats) s ≡ Out.ok bs r
     → (b : Block) × (m : S) × (cs : List Block) × (run src (residual p stats) s ≡ Out.ok b m) × (run src (blocksS ps (b .stats)) m ≡ Out.ok cs r) × (bs ≡ b ∷ cs)
 unfolding blocksS run
 split-blocks src p ps stats s bs r q =
@@ -81,7 +81,7 @@ split-blocks src p ps stats s bs r q =
     let w : y .1 ≡ r = cc in
     (x .0, x .1, y .0, x .2, y .2 ∙ ap (λ z. Out.ok (y .0) z) w, sym v)
 
-none-blocks : {S : Type 0} (src : Source S) (stats : List ℕ) (s : S) (bs : List Block) (r : S) → run src (blocksS [] stats) s ≡ Out.ok bs r → (bs ≡ []) × (s ≡ r)
+pub none-blocks : {S : Type 0} (src : Source S) (stats : List ℕ) (s : S) (bs : List Block) (r : S) → run src (blocksS [] stats) s ≡ Out.ok bs r → (bs ≡ []) × (s ≡ r)
 unfolding blocksS run
 none-blocks src stats s bs r q =
     let a : bs ≡ [] = cc in
@@ -99,7 +99,7 @@ unfolding statisticsRefusal statisticRefusal
 statistics-fine [] h = refl
 statistics-fine (s ∷ st) h = or-else-rest 0 (cond (ltb 84 s) 3 0) (statisticsRefusal st) (sym (ap (λ b. cond b 3 0) (le-ltb 84 s (h 0)))) (statistics-fine st (λ i. h (suc i)))
 
-record-first : (p : Params) (ps : List Params) → 0 ≡ recordsRefusal (p ∷ ps) → (0 ≡ parameterRefusal p places) × (0 ≡ recordsRefusal ps)
+pub record-first : (p : Params) (ps : List Params) → 0 ≡ recordsRefusal (p ∷ ps) → (0 ≡ parameterRefusal p places) × (0 ≡ recordsRefusal ps)
 unfolding recordsRefusal
 record-first p ps q = or-else-zero (parameterRefusal p places) (recordsRefusal ps) q
 
@@ -134,7 +134,7 @@ blocks-each (p ∷ ps) stats q s n =
     each-bind (block-each p stats (parameter-passed p places (r .0) .0) s n) (λ b m h. each-bind (blocks-each ps (b .stats) (r .1) h m) (λ bs k u. each-done tt))
 
 -- ---- how long the lists are, and what they hold
-tray-lists : (ps : List Params) (stats bins : List ℕ) (bs : List Block) → 0 ≡ recordsRefusal ps → Statistics stats → run byList (blocksS ps stats) bins ≡ Out.ok bs []
+pub tray-lists : (ps : List Params) (stats bins : List ℕ) (bs : List Block) → 0 ≡ recordsRefusal ps → Statistics stats → run byList (blocksS ps stats) bins ≡ Out.ok bs []
     → (length bins ≤ 2 * (binsMost * length ps)) × Lists stats ps bins bs
 tray-lists [] stats bins bs q s w =
     let z = none-blocks byList stats bins bs [] w in
@@ -199,7 +199,7 @@ started-live : (l : List ℕ) → started l .ended ≡ false
 unfolding started fetched
 started-live l = refl
 
-count-few : (ps : List Params) → 0 ≡ countRefusal ps → length ps ≤ 256
+pub count-few : (ps : List Params) → 0 ≡ countRefusal ps → length ps ≤ 256
 unfolding countRefusal
 count-few ps q = go (ltb 256 (length ps)) refl q
   where

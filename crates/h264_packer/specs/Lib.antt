@@ -1,0 +1,6 @@
+pub mod Entries
+pub mod Few
+pub mod ReadAgain
+pub mod Promise
+pub mod EntryCode
+pub mod Examples

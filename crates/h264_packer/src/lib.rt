@@ -1,0 +1,2 @@
+// H.264's bin lists as payloads.
+pub mod entries; // entries.rt: the entry point
