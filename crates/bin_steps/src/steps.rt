@@ -41,7 +41,8 @@ pub fn decode_bypass(list: bool, bytes: &[u8], x: Interval) -> Step
     step_of(t)
 }
 
-// n bypass bins as a number. Up to 16 of a payload are read here, the rest by a call.
+// n bypass bins as a number. Up to 16 of a payload are read here, the rest by a call, which is lent a slice of its own and the interval by its parts:
+// the caller's stay in registers, and the step is short enough to be compiled in place.
 pub fn decode_bypass_bits(list: bool, bytes: &[u8], x: Interval, n: u32) -> Step
     requires { ⌜ Readable list (now bytes) x × (n ≤ 32) ⌝ }
     ensures { λ r. ⌜ r ≡ stepOfBits (bitsFrom list (now (bytes .entry)) n x) ⌝ }
@@ -52,7 +53,8 @@ pub fn decode_bypass_bits(list: bool, bytes: &[u8], x: Interval, n: u32) -> Step
             return step_of(t);
         }
     }
-    seldom::decode_bypass_bits(list, bytes, x, n)
+    let position = x.position;
+    seldom::decode_bypass_bits_by_parts(list, &bytes[0..], x.range, x.offset, position, n)
 }
 
 // The range becomes 256 before escape bytes; an offset that lies above it is 7.
