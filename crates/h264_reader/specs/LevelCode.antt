@@ -18,8 +18,8 @@ use Rattle.bins.specs.Sources.{Cursor, cursor, byCode, bypassFrom, stepOf}
 use Rattle.bins.specs.Laws.{RefusedBy, bind-ok, bind-no}
 use Rattle.trees.specs.Levels.{negative, signed, inRange, downFrom}
 use Rattle.trees.specs.Agree.{Reads, from, Says, SaysFlag, reads-on, says-ok, says-no, flag-ok, flag-no}
-use Rattle.shapes.specs.Plain.{bypassP}
-use Rattle.shapes.specs.ShapeLaws.{run-done, bypass-says, bypass-then, bypass-then-no}
+use Rattle.tree_shapes.specs.Plain.{bypassP}
+use Rattle.tree_shapes.specs.ShapeLaws.{run-done, bypass-says, bypass-then, bypass-then-no}
 use Rattle.trees.specs.Reached.{each-run}
 use Rattle.h264_block.specs.Block.{S, levelAt, magnitudeS, levelsS}
 use Rattle.h264_block.specs.BlockBounds.{magnitude-each}

@@ -18,8 +18,8 @@ use Rattle.bins.specs.Laws.{RefusedBy, bind-ok, bind-no, mapOut}
 use Rattle.bins.specs.CodeLaws.{bits-from}
 use Rattle.trees.specs.Shapes.{egBase, firstThen, countS, golombS}
 use Rattle.trees.specs.Agree.{Reads, from, Says, readable-on, reads-on, says-ok, says-no}
-use Rattle.shapes.specs.Plain.{onesP, countP, ones-any, count-any}
-use Rattle.shapes.specs.ShapeLaws.{run-done}
+use Rattle.tree_shapes.specs.Plain.{onesP, countP, ones-any, count-any}
+use Rattle.tree_shapes.specs.ShapeLaws.{run-done}
 use Rattle.trees.specs.Every.{Free, ones-each, bits-each}
 use Rattle.trees.specs.Reached.{each-run}
 use Rattle.trees.specs.ShapeBounds.{golomb-each}

@@ -20,8 +20,8 @@ use Rattle.bins.specs.Laws.{RefusedBy}
 use Rattle.trees.specs.Levels.{downFrom}
 use Rattle.trees.specs.ListLaws.{down-first}
 use Rattle.trees.specs.Agree.{Reads, from, SaysFlag, reads-on, flag-ok, flag-no}
-use Rattle.shapes.specs.Plain.{binP}
-use Rattle.shapes.specs.ShapeLaws.{run-done, bit-zero, bit-one, bin-then, bin-then-no}
+use Rattle.tree_shapes.specs.Plain.{binP}
+use Rattle.tree_shapes.specs.ShapeLaws.{run-done, bit-zero, bit-one, bin-then, bin-then-no}
 use Rattle.h264_block.specs.Layout.{atSignificance, atLast}
 use Rattle.h264_block.specs.Block.{S, isSig, sigPlaces, firstOf, placesS}
 use Rattle.h264_reader.specs.BlockAgree.{placeOn, SaysPlace, marked, SaysPlaces}

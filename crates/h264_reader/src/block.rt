@@ -3,7 +3,7 @@ use crate::levels::levels;
 use crate::places::places;
 use bins::state::Interval;
 use bins::state::Step;
-use shapes::levels::greatest;
+use tree_shapes::levels::greatest;
 ghost use mathlib.Core.Path.{_≡_};
 ghost use Prim.Native.Nat.{_≤_};
 ghost use lib.ListN.{length, replicate};

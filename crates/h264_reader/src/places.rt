@@ -1,7 +1,7 @@
 // The significant places of a block, as marks.
 use bins::state::Interval;
 use bins::state::Step;
-use shapes::context_bin;
+use tree_shapes::context_bin;
 ghost use mathlib.Core.Path.{_≡_};
 ghost use mathlib.Core.Bool.{false};
 ghost use Prim.Native.Nat.{_<_};

@@ -182,9 +182,7 @@ fn read_book(
     sums32: &mut [u64; 1024],
     greatests32: &mut [u32; 1024],
     tallies: &mut [u32; 24],
-) -> Book
-    ensures { λ r. ⌜ r .lines < 18446744073709551615 ⌝ }
-{
+) -> Book {
     let mut piece = io::buffer();
     let mut line = [0u8; 8469];
     let sizes = begin_book(

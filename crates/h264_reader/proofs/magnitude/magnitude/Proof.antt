@@ -9,7 +9,7 @@ use Rattle.h264_reader.proofs.magnitude.magnitude.Lts as lts
 use Rattle.h264_reader.proofs.magnitude.exp_golomb.Reads as exp-golomb-reads
 use Rattle.h264_block.proofs.numbers.first_number.Reads as first-number-reads
 use Rattle.h264_block.proofs.numbers.later_number.Reads as later-number-reads
-use Rattle.shapes.proofs.count.Reads as count-reads
+use Rattle.tree_shapes.proofs.count.Reads as count-reads
 
 -- src/magnitude.rt:73:9
 first-number-requires : tie.Need-first-number-requires
