@@ -88,7 +88,7 @@ fn is_negative(v: i32) -> bool
 }
 
 // A level lies outside the coefficient range, as the smallest i32 does in every range.
-fn is_far(t: u32, v: i32) -> bool
+pub fn is_far(t: u32, v: i32) -> bool
     requires { ⌜ t ≤ 22 ⌝ }
     ensures { λ r. ⌜ r ≡ not (inRange t (negative v) (natAbs v)) ⌝ }
 {
@@ -149,7 +149,7 @@ fn disagrees(p: Params, h: Head, levels: &[i32; 16]) -> bool
 }
 
 // 11 in sub-block i of the scan.
-fn disagrees_at(
+pub fn disagrees_at(
     block: &[i32],
     order: &[[u8; 2]; 16],
     outer: &[[u8; 2]; 64],

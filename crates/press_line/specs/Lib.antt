@@ -1,3 +1,4 @@
 pub mod Spelled
 pub mod SpelledLaws
 pub mod Answered
+pub mod Instance

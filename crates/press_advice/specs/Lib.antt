@@ -1,0 +1,5 @@
+pub mod Advice
+pub mod FirstLaws
+pub mod StrokeLaws
+pub mod Says
+pub mod AdviceLaws
