@@ -21,19 +21,19 @@ fn one_if(m: u32) -> u32
     if m == 0 { 0 } else { 1 }
 }
 
-fn wide(x: u32) -> u64
+pub fn wide(x: u32) -> u64
     ensures { λ r. ⌜ (r ≡ x) × (r ≤ 4294967295) ⌝ }
 {
     x as u64
 }
 
-fn larger(a: u32, b: u32) -> u32
+pub fn larger(a: u32, b: u32) -> u32
     ensures { λ r. ⌜ r ≡ max a b ⌝ }
 {
     if a < b { b } else { a }
 }
 
-fn capped32(a: u32, b: u32) -> u32
+pub fn capped32(a: u32, b: u32) -> u32
     ensures { λ r. ⌜ r ≡ min most32 (a + b) ⌝ }
 {
     if b <= 4294967295 - a {
@@ -43,7 +43,7 @@ fn capped32(a: u32, b: u32) -> u32
     }
 }
 
-fn capped64(a: u64, b: u64) -> u64
+pub fn capped64(a: u64, b: u64) -> u64
     ensures { λ r. ⌜ r ≡ min most64 (a + b) ⌝ }
 {
     if b <= 18446744073709551615 - a {

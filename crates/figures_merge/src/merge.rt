@@ -1,6 +1,10 @@
 // Figures over blocks of one size: for every place a count, a sum and the greatest, lent as three arrays; a tally for every number; and the totals.
 use figures::add::Added;
 use figures::add::Totals;
+use figures_add::add::capped32;
+use figures_add::add::capped64;
+use figures_add::add::larger;
+use figures_add::add::wide;
 use hevc_rules::sizes::area_of;
 ghost use mathlib.Core.Path.{_≡_};
 ghost use Prim.Native.Nat.{_+_, _≤_, min, max};

@@ -49,7 +49,7 @@ fn cell(log2: u32, s: usize, k: usize) -> usize
 }
 
 // The sub-block in which a place stands.
-fn sub_of(log2: u32, place: usize) -> usize
+pub fn sub_of(log2: u32, place: usize) -> usize
     requires { ⌜ (2 ≤ log2) × (log2 ≤ 5) × (place < area log2) ⌝ }
     ensures { λ r. ⌜ (r ≡ subOf log2 place) × (r < subs log2) ⌝ }
 {
@@ -67,7 +67,7 @@ fn one_if(m: u32) -> u32
 }
 
 // A fresh count of sub-block s.
-fn count_in(levels: &[i32], log2: u32, s: usize) -> Tally
+pub fn count_in(levels: &[i32], log2: u32, s: usize) -> Tally
     requires { ⌜ (2 ≤ log2) × (log2 ≤ 5) × (s < subs log2) × (area log2 ≤ length (now levels)) ⌝ }
     ensures { λ r. ⌜ (r .count ≡ countIn log2 (now (levels .entry)) s) × (r .sum ≡ sumIn log2 (now (levels .entry)) s) × (r .sum ≤ subMost) ⌝ }
 {
@@ -110,7 +110,7 @@ fn bit_of(s: usize, count: u32) -> u64
 }
 
 // The record of the whole, from those of the sub-blocks.
-fn whole_of(counts: &[u32], sums: &[u64], log2: u32) -> Whole
+pub fn whole_of(counts: &[u32], sums: &[u64], log2: u32) -> Whole
     requires { ⌜ (2 ≤ log2) × (log2 ≤ 5) × (64 ≤ length (now counts)) × (64 ≤ length (now sums)) ⌝ }
     ensures { λ r. ⌜ r ≡ wholeFrom log2 (now (counts .entry)) (now (sums .entry)) ⌝ }
 {

@@ -1,4 +1,9 @@
 // A kept block: n·n levels, a record for each 4x4 sub-block (counts and sums), and one for the whole.
+use hevc_counts::counts::count_all;
+use hevc_counts::counts::count_in;
+use hevc_counts::counts::form_refusal;
+use hevc_counts::counts::sub_of;
+use hevc_counts::counts::whole_of;
 use hevc_elements::remainder::in_range;
 use hevc_extents::magnitude;
 use hevc_rules::sizes::area_of;

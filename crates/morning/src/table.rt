@@ -3,7 +3,7 @@
 use crate::words::reason;
 use figures::add::Totals;
 use figures_read::out::tally_of;
-use morning_sums::adding::One;
+use morning_add::adding::One;
 use text::write;
 ghost use mathlib.Core.Path.{_≡_};
 ghost use Prim.Native.Nat.{_≤_};

@@ -1,16 +1,16 @@
 // A book, piece after piece, and its end.
-use crate::adding::Sizes;
-use crate::adding::add_event;
-use crate::event::read_line;
 use book_lines::pending::Pending;
 use book_lines::pending::push;
+use morning_add::adding::Sizes;
+use morning_add::adding::add_event;
+use morning_add::event::read_line;
 ghost use mathlib.Core.Path.{_≡_};
 ghost use Prim.Native.Nat.{_+_, _≤_, _<_};
 ghost use lib.ListN.{length, take};
 ghost use Rattle.book_lines.specs.Lines.{lineOf};
 ghost use Rattle.book_lines.specs.Steps.{reading, stepState, stepOut, fedState, fedOut, endOut};
-ghost use Rattle.morning_sums.specs.Sums.{eventLine, added};
-ghost use Rattle.morning_sums.specs.Agree.{fourOf};
+ghost use Rattle.morning_add.specs.Sums.{eventLine, added};
+ghost use Rattle.morning_add.specs.Agree.{fourOf};
 
 // The line that is being read, and the totals of each size.
 pub struct Feeding {

@@ -1,17 +1,15 @@
-// Shows blocks to a person: frames of hexadecimal from standard input, one a line, each block or refusal in words to standard output.
+// Shows one block to a person: a frame of hexadecimal from standard input, the block or the refusal in words to standard output.
 //
-// A frame of HEVC is 8 bytes for log2 size, luma (1) or chroma (0), scan, bit depth, QP, hiding (0 or 1), and the payload length as two bytes, high
+// A frame is 8 bytes for log2 size, luma (1) or chroma (0), scan, bit depth, QP, hiding (0 or 1), and the payload length as two bytes, high
 // first; then an initial value for each context; then the payload of at most 4,096 bytes. Digits are lower case, two a byte, with nothing between them. Other
-// options are off, the statistics 0. What stands behind the frame in its line is not looked at. A line that begins with h is a frame of H.264 (h264.rt).
+// options are off, the statistics 0. What stands behind the frame is not looked at.
 mod grid; // grid.rt: the levels
-mod h264; // h264.rt: a frame of an old camera
 mod summary; // summary.rt: count, sum and map
 mod words; // words.rt: refusals and findings in words
 
 use bins::places::BitPlace;
 use bins::state::Engine;
 use bins::tags::CONTEXTS;
-use bytes::scan::find;
 use cabac::engine::State;
 use cabac_engine::engine::start;
 use cabac_init::contexts::init_contexts;
@@ -195,32 +193,8 @@ fn frame(text: &[u8]) {
     read(&header, &values, part(&bytes, 0, length));
 }
 
-fn line(text: &[u8]) {
-    if h264::is_frame(text) {
-        h264::frame(text);
-        return;
-    }
-    frame(text);
-}
-
-// A line for each frame, and an empty one between two.
-fn lines(text: &[u8]) {
-    let mut at: usize = 0;
-    while at < text.len() {
-        let to = find(text, at, text.len(), b'\n');
-        if 0 < at {
-            write::end_line();
-        }
-        line(part(text, at, to));
-        at = to + 1;
-    }
-}
-
 fn main() {
     let mut buffer = io::large_buffer();
     let n = io::read_full(STDIN_FILENO, &mut buffer);
-    if n == 0 {
-        frame(b"");
-    }
-    lines(part(&buffer, 0, n));
+    frame(part(&buffer, 0, n));
 }

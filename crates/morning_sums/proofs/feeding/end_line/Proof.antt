@@ -2,7 +2,7 @@
 use native.Mathlib.Omega.{arith}
 use lib.ListN.{take, length-take}
 use Rattle.book_lines.specs.Lines.{lineOf}
-use Rattle.morning_sums.specs.CodeLaws.{line-added}
+use Rattle.morning_add.specs.CodeLaws.{line-added}
 use borrow.Author.Needs.{needs}
 use Rattle.morning_sums.proofs.feeding.end_line.Statement.{statement}
 use Rattle.morning_sums.proofs.feeding.end_line.Tie as tie

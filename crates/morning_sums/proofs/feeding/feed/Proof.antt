@@ -4,8 +4,8 @@ use borrow.Author.Needs.{needs}
 use Prim.Native.Nat.{_≤_, _-_}
 use mathlib.Core.Path.{_≡_, refl}
 use lib.ListN.{length}
-use Rattle.morning_sums.specs.Agree.{fourOf}
-use Rattle.morning_sums.specs.CodeLaws.{Fed, fed-begun, fed-more, fed-state-all, fed-sums-all}
+use Rattle.morning_add.specs.Agree.{fourOf}
+use Rattle.morning_add.specs.CodeLaws.{Fed, fed-begun, fed-more, fed-state-all, fed-sums-all}
 use Rattle.morning_sums.proofs.feeding.feed.Statement.{statement}
 use Rattle.morning_sums.proofs.feeding.feed.Tie as tie
 

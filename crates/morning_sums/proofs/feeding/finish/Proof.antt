@@ -1,8 +1,8 @@
 -- `finish` meets its contract. Assumes nothing.
 use native.Mathlib.Omega.{arith}
 use Rattle.book_lines.specs.CodeLaws.{end-none, end-open}
-use Rattle.morning_sums.specs.Sums.{eventLine}
-use Rattle.morning_sums.specs.CodeLaws.{none-added, added-as}
+use Rattle.morning_add.specs.Sums.{eventLine}
+use Rattle.morning_add.specs.CodeLaws.{none-added, added-as}
 use borrow.Author.Needs.{needs}
 use Rattle.morning_sums.proofs.feeding.finish.Statement.{statement}
 use Rattle.morning_sums.proofs.feeding.finish.Tie as tie

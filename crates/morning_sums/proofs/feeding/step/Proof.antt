@@ -2,8 +2,8 @@
 use native.Mathlib.Omega.{arith}
 use lib.ListN.{take}
 use Rattle.book_lines.specs.CodeLaws.{more-state, more-out, ended-state, end-out}
-use Rattle.morning_sums.specs.Sums.{eventLine}
-use Rattle.morning_sums.specs.CodeLaws.{none-added, added-as}
+use Rattle.morning_add.specs.Sums.{eventLine}
+use Rattle.morning_add.specs.CodeLaws.{none-added, added-as}
 use borrow.Author.Needs.{needs}
 use Rattle.morning_sums.proofs.feeding.step.Statement.{statement}
 use Rattle.morning_sums.proofs.feeding.step.Tie as tie

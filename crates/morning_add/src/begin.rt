@@ -7,8 +7,8 @@ ghost use mathlib.Core.Path.{_≡_};
 ghost use Prim.Native.Nat.{_≤_};
 ghost use Rattle.figures.specs.Entries.{begun};
 ghost use Rattle.figures.specs.Agree.{held};
-ghost use Rattle.morning_sums.specs.Sums.{noSums};
-ghost use Rattle.morning_sums.specs.Agree.{fourOf};
+ghost use Rattle.morning_add.specs.Sums.{noSums};
+ghost use Rattle.morning_add.specs.Agree.{fourOf};
 
 fn begin_size(
     blocks: &mut [u32; 1024],

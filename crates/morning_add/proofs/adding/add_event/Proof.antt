@@ -1,8 +1,8 @@
 -- `add_event` meets its contract. Assumes nothing.
-use Rattle.morning_sums.specs.CodeLaws.{four-block, four-refusal, event-block, event-no}
+use Rattle.morning_add.specs.CodeLaws.{four-block, four-refusal, event-block, event-no}
 use borrow.Author.Needs.{needs}
-use Rattle.morning_sums.proofs.adding.add_event.Statement.{statement}
-use Rattle.morning_sums.proofs.adding.add_event.Tie as tie
+use Rattle.morning_add.proofs.adding.add_event.Statement.{statement}
+use Rattle.morning_add.proofs.adding.add_event.Tie as tie
 
 enum-known-e : tie.Need-enum-known-e
 enum-known-e c = search needs

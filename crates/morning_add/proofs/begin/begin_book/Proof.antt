@@ -1,8 +1,8 @@
 -- `begin_book` meets its contract. Assumes nothing.
-use Rattle.morning_sums.specs.CodeLaws.{book-begun}
+use Rattle.morning_add.specs.CodeLaws.{book-begun}
 use borrow.Author.Needs.{needs}
-use Rattle.morning_sums.proofs.begin.begin_book.Statement.{statement}
-use Rattle.morning_sums.proofs.begin.begin_book.Tie as tie
+use Rattle.morning_add.proofs.begin.begin_book.Statement.{statement}
+use Rattle.morning_add.proofs.begin.begin_book.Tie as tie
 
 begin-size-requires : tie.Need-begin-size-requires
 begin-size-requires c κs = search needs

@@ -1,8 +1,8 @@
 -- `frame_read` meets its contract. Assumes nothing.
-use Rattle.morning_sums.specs.CodeLaws.{frame-ok, frame-no}
+use Rattle.morning_add.specs.CodeLaws.{frame-ok, frame-no}
 use borrow.Author.Needs.{needs}
-use Rattle.morning_sums.proofs.event.frame_read.Statement.{statement}
-use Rattle.morning_sums.proofs.event.frame_read.Tie as tie
+use Rattle.morning_add.proofs.event.frame_read.Statement.{statement}
+use Rattle.morning_add.proofs.event.frame_read.Tie as tie
 
 size-of-requires : tie.Need-size-of-requires
 size-of-requires c κs = search needs

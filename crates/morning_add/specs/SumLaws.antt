@@ -13,7 +13,7 @@ use Rattle.book_answers.specs.Answers.{judgedBy, judged}
 use Rattle.figures.specs.Figures.{Event, refusal, Figures}
 use Rattle.figures.specs.Entries.{add, addAll}
 use Rattle.figures.specs.Entries as entries
-use Rattle.morning_sums.specs.Sums.{eventBy, framed, lineEvent, eventLine, events, Sum, plus, Four, fourPlus, added, noSums, bookSums}
+use Rattle.morning_add.specs.Sums.{eventBy, framed, lineEvent, eventLine, events, Sum, plus, Four, fourPlus, added, noSums, bookSums}
 
 pub event-clips : Clips eventLine
 unfolding eventLine lineEvent judged judgedBy eventBy

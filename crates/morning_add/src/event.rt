@@ -9,8 +9,8 @@ ghost use lib.ListN.{length};
 ghost use Rattle.book_lines.specs.Lines.{lineOf};
 ghost use Rattle.frame.specs.Frame.{byteOf};
 ghost use Rattle.frame.specs.Verdict.{verdict};
-ghost use Rattle.morning_sums.specs.Sums.{framed, lineEvent};
-ghost use Rattle.morning_sums.specs.Agree.{eventOf};
+ghost use Rattle.morning_add.specs.Sums.{framed, lineEvent};
+ghost use Rattle.morning_add.specs.Agree.{eventOf};
 
 // A block's log2 size and its total past the end (its levels are left beside it), or the number of the refusal.
 pub enum LineRead {

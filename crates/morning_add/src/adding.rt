@@ -7,8 +7,8 @@ ghost use mathlib.Core.Path.{_≡_};
 ghost use mathlib.Core.List.{List};
 ghost use Prim.Native.Nat.{ℕ};
 ghost use Rattle.figures.specs.Figures.{block};
-ghost use Rattle.morning_sums.specs.Sums.{plus, fourPlus};
-ghost use Rattle.morning_sums.specs.Agree.{eventOf, sumOf, fourOf};
+ghost use Rattle.morning_add.specs.Sums.{plus, fourPlus};
+ghost use Rattle.morning_add.specs.Agree.{eventOf, sumOf, fourOf};
 
 // Of one size: the totals, and whether a block was left out since 4,096 were there.
 pub struct One {

@@ -4,11 +4,11 @@ use mathlib.Core.List.{List}
 use lib.IntN.{ℤ}
 use Rattle.figures.specs.Figures.{Event, block, refusal}
 use Rattle.figures.specs.Agree.{held}
-use Rattle.morning_sums.specs.declared.event.LineRead.{LineRead}
-use Rattle.morning_sums.specs.declared.event.LineRead.the-variants as ofRead
-use Rattle.morning_sums.specs.declared.adding.One.{One}
-use Rattle.morning_sums.specs.declared.adding.Sizes.{Sizes}
-use Rattle.morning_sums.specs.Sums.{Sum, Four}
+use Rattle.morning_add.specs.declared.event.LineRead.{LineRead}
+use Rattle.morning_add.specs.declared.event.LineRead.the-variants as ofRead
+use Rattle.morning_add.specs.declared.adding.One.{One}
+use Rattle.morning_add.specs.declared.adding.Sizes.{Sizes}
+use Rattle.morning_add.specs.Sums.{Sum, Four}
 
 unfoldable pub eventOf : LineRead → List ℤ → Event
 eventOf (ofRead.Block log2 past) levels = block log2 levels past

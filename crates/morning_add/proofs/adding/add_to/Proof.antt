@@ -1,8 +1,8 @@
 -- `add_to` meets its contract. Assumes nothing.
-use Rattle.morning_sums.specs.CodeLaws.{to-full, to-more}
+use Rattle.morning_add.specs.CodeLaws.{to-full, to-more}
 use borrow.Author.Needs.{needs}
-use Rattle.morning_sums.proofs.adding.add_to.Statement.{statement}
-use Rattle.morning_sums.proofs.adding.add_to.Tie as tie
+use Rattle.morning_add.proofs.adding.add_to.Statement.{statement}
+use Rattle.morning_add.proofs.adding.add_to.Tie as tie
 
 add-block-requires : tie.Need-add-block-requires
 add-block-requires c κs = search needs

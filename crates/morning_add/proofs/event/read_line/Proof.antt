@@ -3,10 +3,10 @@ use Prim.Native.Nat.{ℕ}
 use native.Mathlib.Omega.{arith}
 use lib.ListN.{length-replicate}
 use Rattle.book_answers.specs.CodeLaws.{front-bytes, front-count, front-room, front-long}
-use Rattle.morning_sums.specs.CodeLaws.{line-form, line-frame}
+use Rattle.morning_add.specs.CodeLaws.{line-form, line-frame}
 use borrow.Author.Needs.{needs}
-use Rattle.morning_sums.proofs.event.read_line.Statement.{statement}
-use Rattle.morning_sums.proofs.event.read_line.Tie as tie
+use Rattle.morning_add.proofs.event.read_line.Statement.{statement}
+use Rattle.morning_add.proofs.event.read_line.Tie as tie
 
 refusal-requires : tie.Need-refusal-requires
 refusal-requires c κs = search needs

@@ -1,8 +1,8 @@
 -- `begin_size` meets its contract. Assumes nothing.
-use Rattle.morning_sums.specs.CodeLaws.{begins}
+use Rattle.morning_add.specs.CodeLaws.{begins}
 use borrow.Author.Needs.{needs}
-use Rattle.morning_sums.proofs.begin.begin_size.Statement.{statement}
-use Rattle.morning_sums.proofs.begin.begin_size.Tie as tie
+use Rattle.morning_add.proofs.begin.begin_size.Statement.{statement}
+use Rattle.morning_add.proofs.begin.begin_size.Tie as tie
 
 begin-requires : tie.Need-begin-requires
 begin-requires c κs = search needs

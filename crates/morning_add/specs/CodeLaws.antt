@@ -25,13 +25,13 @@ use Rattle.counting.specs.Count.{gather, updated}
 use Rattle.figures.specs.Figures.{Event, block, refusal, Figures, each, figuresOf}
 use Rattle.figures.specs.Entries.{After, unlessRefused, beginRefusal, begin, begun, add, addBlock, addRefusal, numberRefusal, withRefusal}
 use Rattle.figures.specs.Agree.{held, afterOf}
-use Rattle.morning_sums.specs.declared.event.LineRead.{LineRead}
-use Rattle.morning_sums.specs.declared.event.LineRead.the-variants as ofRead
-use Rattle.morning_sums.specs.declared.adding.One.{One}
-use Rattle.morning_sums.specs.declared.adding.Sizes.{Sizes}
-use Rattle.morning_sums.specs.Sums.{eventBy, framed, lineEvent, eventLine, Sum, plus, Four, fourPlus, added, noSum, noSums}
-use Rattle.morning_sums.specs.Agree.{eventOf, sumOf, fourOf}
-use Rattle.morning_sums.specs.SumLaws.{added-append}
+use Rattle.morning_add.specs.declared.event.LineRead.{LineRead}
+use Rattle.morning_add.specs.declared.event.LineRead.the-variants as ofRead
+use Rattle.morning_add.specs.declared.adding.One.{One}
+use Rattle.morning_add.specs.declared.adding.Sizes.{Sizes}
+use Rattle.morning_add.specs.Sums.{eventBy, framed, lineEvent, eventLine, Sum, plus, Four, fourPlus, added, noSum, noSums}
+use Rattle.morning_add.specs.Agree.{eventOf, sumOf, fourOf}
+use Rattle.morning_add.specs.SumLaws.{added-append}
 
 -- ---- a frame
 module _ (bytes : List ℕ) (levels : List ℤ) (v : Verdict) (w : v ≡ verdict bytes) where
