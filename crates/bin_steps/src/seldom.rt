@@ -1,7 +1,7 @@
 // Steps that are taken seldom, by a call of their own: those that readers are made of are then short enough to be compiled in place.
-use crate::list;
-use crate::payload;
-use bins::places::BitPlace;
+use bin_sources::list;
+use bin_sources::payload;
+use bins::places::SourcePlace;
 use bins::state::Interval;
 use bins::state::Step;
 use bins::state::step_of;
@@ -24,7 +24,7 @@ pub fn decode_bypass_bits_by_parts(
     bytes: &[u8],
     range: u32,
     offset: u32,
-    position: BitPlace,
+    position: SourcePlace,
     n: u32,
 ) -> Step
     requires { ⌜ Readable list (now bytes) (record { range = range; offset = offset; position = position }) × (n ≤ 32) ⌝ }

@@ -1,7 +1,7 @@
 // A step from whichever source a reader reads: a bin list, or a payload by the arithmetic engine.
-use crate::list;
-use crate::payload;
 use crate::seldom;
+use bin_sources::list;
+use bin_sources::payload;
 use bins::state::Interval;
 use bins::state::Step;
 use bins::state::step_of;
@@ -21,7 +21,7 @@ pub fn decode_bin(
     x: Interval,
 ) -> Step
     requires { ⌜ Readable list (now bytes) x × (now c < 128) × (number < 32768) × (now table ≡ decisions) ⌝ }
-    ensures { λ r. ⌜ (r ≡ stepOf (binFrom list (now (bytes .entry)) number (now (c .entry)) x)) × (now (c .exit) ≡ contextFrom list (now (bytes .entry)) (now (c .entry)) x) ⌝ }
+    ensures { λ r. ⌜ (r ≡ stepOf x (binFrom list (now (bytes .entry)) number (now (c .entry)) x)) × (now (c .exit) ≡ contextFrom list (now (bytes .entry)) (now (c .entry)) x) ⌝ }
 {
     if list {
         return list::bin(bytes, number, x);
@@ -32,7 +32,7 @@ pub fn decode_bin(
 
 pub fn decode_bypass(list: bool, bytes: &[u8], x: Interval) -> Step
     requires { ⌜ Readable list (now bytes) x ⌝ }
-    ensures { λ r. ⌜ r ≡ stepOf (bypassFrom list (now (bytes .entry)) x) ⌝ }
+    ensures { λ r. ⌜ r ≡ stepOf x (bypassFrom list (now (bytes .entry)) x) ⌝ }
 {
     if list {
         return list::bin(bytes, BYPASS, x);
@@ -60,7 +60,7 @@ pub fn decode_bypass_bits(list: bool, bytes: &[u8], x: Interval, n: u32) -> Step
 // The range becomes 256 before escape bytes; an offset that lies above it is 7.
 pub fn align_bypass(list: bool, bytes: &[u8], x: Interval) -> Step
     requires { ⌜ Readable list (now bytes) x ⌝ }
-    ensures { λ r. ⌜ r ≡ stepOf (alignFrom list (now (bytes .entry)) x) ⌝ }
+    ensures { λ r. ⌜ r ≡ stepOf x (alignFrom list (now (bytes .entry)) x) ⌝ }
 {
     if list {
         return list::align(bytes, x);
@@ -69,7 +69,7 @@ pub fn align_bypass(list: bool, bytes: &[u8], x: Interval) -> Step
     let offset = x.offset;
     let range = 256;
     if range <= offset {
-        return Step::Refused(7);
+        return Step::Refused(7, x);
     }
     Step::Bin(
         0,

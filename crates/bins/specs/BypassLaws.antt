@@ -11,7 +11,7 @@ use lib.Pow.{pow-add, pow-mono}
 use borrow.Author.Tests.{ltb-true, ltb-false}
 use Rattle.bins.specs.declared.state.Interval.{Interval}
 use Rattle.bins.specs.declared.state.Taken.{Taken}
-use Rattle.bins.specs.declared.places.BitPlace.{BitPlace}
+use Rattle.bins.specs.declared.places.SourcePlace.{SourcePlace}
 use Rattle.bins.specs.Bits.{bitAt, bits, ends, pastMost}
 use Rattle.bins.specs.BitLaws.{bits-lt, bits-past, bits-add}
 use Rattle.bins.specs.Engine.{bitNo}
@@ -87,7 +87,7 @@ one-by false y r q h k =
     (sym (rw e at d), sym (rw e at m))
 
 -- y is the doubled offset with the bit b, z whether it is below the range
-pub one-code : (l : List ℕ) (x : Interval) (b v k : ℕ) (at : BitPlace) → Goes l x → b ≡ bits l (placeOf x) 1 → at .0 ≡ ranOn l (placeOf x) 1
+pub one-code : (l : List ℕ) (x : Interval) (b v k : ℕ) (at : SourcePlace) → Goes l x → b ≡ bits l (placeOf x) 1 → at .0 ≡ ranOn l (placeOf x) 1
     → v ≡ cond (ltb (x .offset * 2 + b) (x .range)) 0 1
     → k ≡ cond (ltb (x .offset * 2 + b) (x .range)) (x .offset * 2 + b) (x .offset * 2 + b - x .range)
     → _≡_ {A = Taken} (record { value = v; next = record { range = x .range; offset = k; position = at } }) (bypassedOn l x 1)
@@ -113,7 +113,7 @@ module _ (l : List ℕ) (x : Interval) (n : ℕ) (g : Goes l x) (h : n ≤ 16) w
   pub few-small : x .offset * 2 ^ n + bits l (placeOf x) n < 4294967296
   few-small = omega (arith, shl-small, bits-lt l (placeOf x) n, pow-mono h)
 
-  pub few-code : (v : ℕ) (at : BitPlace) → v ≡ bits l (placeOf x) n → at .0 ≡ ranOn l (placeOf x) n
+  pub few-code : (v : ℕ) (at : SourcePlace) → v ≡ bits l (placeOf x) n → at .0 ≡ ranOn l (placeOf x) n
       → _≡_ {A = Taken} (record { value = ((x .offset * 2 ^ n) % 4294967296 + v) / x .range; next = record { range = x .range; offset = ((x .offset * 2 ^ n) % 4294967296 + v) % x .range; position = at } }) (bypassedOn l x n)
   unfolding bypassedOn fetchedOn
   few-code v at p q =

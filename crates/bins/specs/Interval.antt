@@ -70,7 +70,7 @@ bypassedOn l x c =
 
 -- ---- from a state to an interval and back
 abbrev pub opened : Engine → Interval
-opened e = record { range = e .range; offset = e .offset; position = e .position }
+opened e = record { range = e .range; offset = e .offset; position = record { 0 = e .position .0 } }
 
 -- e is the state that the interval was opened from; the place has run on past the end by as many bits as were drawn there
 unfoldable pub settled : List ℕ → Engine → Interval → Engine

@@ -13,7 +13,7 @@ use lib.Count.{leadingZeros}
 use borrow.Author.Tests.{ltb-true, ltb-false}
 use Rattle.bins.specs.declared.state.Interval.{Interval}
 use Rattle.bins.specs.declared.state.Taken.{Taken}
-use Rattle.bins.specs.declared.places.BitPlace.{BitPlace}
+use Rattle.bins.specs.declared.places.SourcePlace.{SourcePlace}
 use Rattle.bins.specs.Bits.{bitAt, bits, ends, pastMost}
 use Rattle.bins.specs.BitLaws.{bits-lt, bits-past, bits-add, bit-lt}
 use Rattle.tables.specs.Tables.{entryOf}
@@ -52,7 +52,7 @@ module _ (l : List ℕ) (x : Interval) (r o : ℕ) (h : Renorms l x r o) where
   pub offset-small : o * 2 ^ shift ≤ 510
   offset-small = omega (arith, range-small, mul-le-mul-right (2 ^ shift) (h .below))
 
-  pub renormed-code : (v : ℕ) (at : BitPlace) → v ≡ bits l (placeOf x) shift → at .0 ≡ ranOn l (placeOf x) shift
+  pub renormed-code : (v : ℕ) (at : SourcePlace) → v ≡ bits l (placeOf x) shift → at .0 ≡ ranOn l (placeOf x) shift
       → _≡_ {A = Interval} (record { range = (r * 2 ^ shift) % 4294967296; offset = (o * 2 ^ shift) % 4294967296 + v; position = at }) (renormedOn l x r o)
   unfolding fetchedOn
   renormed-code v at p q =
@@ -99,28 +99,19 @@ bypassed-lt l x c h =
     let less : y < 2 ^ c * x .range = omega (arith, bits-lt l (placeOf x) c) in
     div-lt-iff-lt-mul {x = y} {y = 2 ^ c} pos .1 less
 
--- ---- a decision as the code makes it: the entry is read from the lent table, and each part is picked by whether the favoured bin is read
-module _ (l : List ℕ) (x : Interval) (ctx : ℕ) (table : List ℕ) (g : Goes l x) (h : ctx < 128) (t : table ≡ decisions) where
-  abbrev entry : ℕ
-  entry = getD table (ctx * 4 + x .range / 64 % 4) 0
-
+-- ---- a decision as the code makes it: by its entry of the decision table, and each part is picked by whether the favoured bin is read
+module _ (l : List ℕ) (x : Interval) (ctx : ℕ) (entry : ℕ) (g : Goes l x) (h : ctx < 128) (t : entry ≡ getD decisions (ctx * 4 + x .range / 64 % 4) 0) where
   abbrev favoured : Bool
   favoured = ltb (x .offset) (x .range - entry % 256)
 
+  by-rule : entry ≡ entryOf ctx (x .range / 64 % 4)
+  by-rule = t ∙ decisions-rule ctx (x .range / 64 % 4) h (omega arith)
+
   parts-are : SplitIs favoured (x .range) (x .offset) ctx entry
-  parts-are =
-      let e : entry ≡ entryOf ctx (x .range / 64 % 4) =
-      ap (λ z. getD z (ctx * 4 + x .range / 64 % 4) 0) t ∙ decisions-rule ctx (x .range / 64 % 4) h (omega arith) in
-      split-is favoured (x .range) (x .offset) ctx entry h e refl
+  parts-are = split-is favoured (x .range) (x .offset) ctx entry h by-rule refl
 
   pub decide-small : (n : ℕ) → n ≡ cond favoured (entry / 256 % 256) (entry / 65536) → n < 128
   decide-small n q = omega (arith, q ∙ parts-are .context, split-packed (x .range) (x .offset) ctx h)
-
-  pub decide-less : entry % 256 ≤ x .range
-  decide-less =
-      let e : entry ≡ entryOf ctx (x .range / 64 % 4) =
-      ap (λ z. getD z (ctx * 4 + x .range / 64 % 4) 0) t ∙ decisions-rule ctx (x .range / 64 % 4) h (omega arith) in
-      omega (arith, g .least)
 
   pub decide-renorms : (r o : ℕ) → r ≡ cond favoured (x .range - entry % 256) (entry % 256) → o ≡ cond favoured (x .offset) (x .offset - (x .range - entry % 256))
       → Renorms l x r o

@@ -3,7 +3,10 @@
 use Prim.Native.Nat.{ℕ}
 use mathlib.Core.Path.{_≡_, refl, sym, ap, subst, _∙_}
 use mathlib.Core.Bool.{Bool}
+use mathlib.Core.List.{List}
+use Rattle.bins.specs.declared.state.Refusal.{Refusal}
 use Rattle.bins.specs.Syn.{Syn, done, stop, bin, bypass, align, _>>=_, Took, took, refused, Source, Out, onward, run}
+use Rattle.bins.specs.Sources.{Cursor, cursor}
 
 -- ---- one step, where its outcome is known: what a proof of code cites
 module _ {S B A : Type 0} (src : Source S) where
@@ -63,11 +66,11 @@ pub bind-ok : {S B A C : Type 0} (src : Source S) (t : Syn B A) (f : A → Syn B
     → run src t s ≡ Out.ok a s′ → run src (t >>= f) s ≡ run src (f a) s′
 bind-ok src t f s a s′ q = run-bind src t f s ∙ ap (thenRun src f) q
 
--- refused by number n, wherever that arose
-abbrev pub RefusedBy : {S A : Type 0} → ℕ → Out S A → Type 0
-RefusedBy {S} n o = (s : S) × (o ≡ Out.no n s)
+-- refused as the code tells it: by the number, at the interval where it arose, whatever the contexts are there
+abbrev pub RefusedBy : {A : Type 0} → Refusal → Out Cursor A → Type 0
+RefusedBy n o = (cs : List ℕ) × (o ≡ Out.no (n .number) (cursor (n .at) cs))
 
-pub bind-no : {S B A C : Type 0} (src : Source S) (t : Syn B A) (f : A → Syn B C) (s : S) (n : ℕ)
+pub bind-no : {B A C : Type 0} (src : Source Cursor) (t : Syn B A) (f : A → Syn B C) (s : Cursor) (n : Refusal)
     → RefusedBy n (run src t s) → RefusedBy n (run src (t >>= f) s)
 bind-no src t f s n r = (r .0, run-bind src t f s ∙ ap (thenRun src f) (r .1))
 

@@ -33,26 +33,26 @@ module _ (l : List ℕ) (x : Interval) where
   readable-goes false q h = h
 
   -- ---- a bin with a context
-  pub bin-listed : (s : Bool) (c ctx : ℕ) (r : Step) → s ≡ true → r ≡ stepOf (entryBin l c x)
-      → (r ≡ stepOf (binFrom s l c ctx x)) × (ctx ≡ contextFrom s l ctx x)
+  pub bin-listed : (s : Bool) (c ctx : ℕ) (r : Step) → s ≡ true → r ≡ stepOf x (entryBin l c x)
+      → (r ≡ stepOf x (binFrom s l c ctx x)) × (ctx ≡ contextFrom s l ctx x)
   unfolding binFrom contextFrom
   bin-listed true c ctx r q h = (h, refl)
   bin-listed false c ctx r q h = let z : _≡_ {A = ℕ} 0 1 = cc in absurd (omega arith)
 
   pub bin-decided : (s : Bool) (c ctx n : ℕ) (t : Taken) (r : Step) → s ≡ false → t ≡ decidedValue l x ctx → n ≡ decidedOn l x ctx .ctx
-      → r ≡ step.Bin (t .value) (t .next) → (r ≡ stepOf (binFrom s l c ctx x)) × (n ≡ contextFrom s l ctx x)
+      → r ≡ step.Bin (t .value) (t .next) → (r ≡ stepOf x (binFrom s l c ctx x)) × (n ≡ contextFrom s l ctx x)
   unfolding binFrom contextFrom
   bin-decided true c ctx n t r q h k e = let z : _≡_ {A = ℕ} 0 1 = cc in absurd (omega arith)
   bin-decided false c ctx n t r q h k e = (e ∙ ap (λ (t : Taken). step.Bin (t .value) (t .next)) h, k)
 
   -- ---- a bypass bin
-  pub bypass-listed : (s : Bool) (r : Step) → s ≡ true → r ≡ stepOf (entryBin l bypassNo x) → r ≡ stepOf (bypassFrom s l x)
+  pub bypass-listed : (s : Bool) (r : Step) → s ≡ true → r ≡ stepOf x (entryBin l bypassNo x) → r ≡ stepOf x (bypassFrom s l x)
   unfolding bypassFrom
   bypass-listed true r q h = h
   bypass-listed false r q h = let z : _≡_ {A = ℕ} 0 1 = cc in absurd (omega arith)
 
   pub bypass-taken : (s : Bool) (t : Taken) (r : Step) → s ≡ false → Readable s l x → t ≡ bypassedOn l x 1 → r ≡ step.Bin (t .value) (t .next)
-      → r ≡ stepOf (bypassFrom s l x)
+      → r ≡ stepOf x (bypassFrom s l x)
   unfolding bypassFrom
   bypass-taken true t r q g h e = let z : _≡_ {A = ℕ} 0 1 = cc in absurd (omega arith)
   bypass-taken false t r q g h e =
@@ -86,18 +86,18 @@ module _ (l : List ℕ) (x : Interval) where
   bits-taken false n t r q h e = e ∙ ap (λ (t : Taken). step.Bin (t .value) (t .next)) h
 
   -- ---- alignment of the range
-  pub align-listed : (s : Bool) (r : Step) → s ≡ true → r ≡ stepOf (entryAlign l x) → r ≡ stepOf (alignFrom s l x)
+  pub align-listed : (s : Bool) (r : Step) → s ≡ true → r ≡ stepOf x (entryAlign l x) → r ≡ stepOf x (alignFrom s l x)
   unfolding alignFrom
   align-listed true r q h = h
   align-listed false r q h = let z : _≡_ {A = ℕ} 0 1 = cc in absurd (omega arith)
 
-  pub align-refused : (s : Bool) → s ≡ false → 256 ≤ x .offset → step.Refused 7 ≡ stepOf (alignFrom s l x)
+  pub align-refused : (s : Bool) → s ≡ false → 256 ≤ x .offset → step.Refused 7 x ≡ stepOf x (alignFrom s l x)
   unfolding alignFrom
   align-refused true q h = let z : _≡_ {A = ℕ} 0 1 = cc in absurd (omega arith)
   align-refused false q h = rw (le-ltb (x .offset) 256 h)
 
   pub align-taken : (s : Bool) → s ≡ false → x .offset < 256
-      → step.Bin 0 (record { range = 256; offset = x .offset; position = x .position }) ≡ stepOf (alignFrom s l x)
+      → step.Bin 0 (record { range = 256; offset = x .offset; position = x .position }) ≡ stepOf x (alignFrom s l x)
   unfolding alignFrom
   align-taken true q h = let z : _≡_ {A = ℕ} 0 1 = cc in absurd (omega arith)
   align-taken false q h = rw (lt-ltb (x .offset) 256 h)

@@ -6,6 +6,7 @@ use mathlib.Core.Bool.{Bool, true, false, cond}
 use lib.ListN.{length, getD, set}
 use lib.Dec.{ltb, leb}
 use Rattle.bins.specs.declared.state.Interval.{Interval}
+use Rattle.bins.specs.declared.state.Refusal.{Refusal}
 use Rattle.bins.specs.declared.state.Step.{Step}
 use Rattle.bins.specs.declared.state.Step.the-variants as step
 use Rattle.bins.specs.Engine.{bitNo}
@@ -15,13 +16,26 @@ use Rattle.bins.specs.Readers.{bitsS}
 use Rattle.bins.specs.Interval.{placeOf, Goes, decidedOn, bypassedOn}
 
 -- ---- what the code's steps say
-abbrev pub stepOf : Took Interval → Step
-stepOf (took b x) = step.Bin (bitNo b) x
-stepOf (refused n) = step.Refused n
+-- x is the interval before the step: where it is refused, it is so there
+abbrev pub stepOf : Interval → Took Interval → Step
+stepOf x (took b y) = step.Bin (bitNo b) y
+stepOf x (refused n) = step.Refused n x
 
 abbrev pub stepOfBits : Out Interval ℕ → Step
 stepOfBits (Out.ok v x) = step.Bin v x
-stepOfBits (Out.no n x) = step.Refused n
+stepOfBits (Out.no n x) = step.Refused n x
+
+-- a refusal by its number and the interval at which it arose
+abbrev pub refusedAt : ℕ → Interval → Refusal
+refusedAt n x = record { number = n; at = x }
+
+abbrev pub stopped : Refusal → Step
+stopped r = step.Refused (r .number) (r .at)
+
+-- the refusal of a step; of a bin, number 0 behind it
+abbrev pub refusalOf : Step → Refusal
+refusalOf (step.Bin v y) = refusedAt 0 y
+refusalOf (step.Refused n x) = refusedAt n x
 
 -- ---- a list, by the place of its next byte: an entry is two
 abbrev pub behind : Interval → Interval

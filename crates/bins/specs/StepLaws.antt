@@ -11,6 +11,7 @@ use lib.ListN.{length, getD}
 use lib.Dec.{ltb, eqb}
 use borrow.Author.Tests.{eqb-false, lt-ltb, le-ltb, eq-eqb, ne-eqb, eqb-true}
 use Rattle.bins.specs.declared.state.Interval.{Interval}
+use Rattle.bins.specs.declared.state.Refusal.{Refusal}
 use Rattle.bins.specs.declared.state.Step.{Step}
 use Rattle.bins.specs.declared.state.Step.the-variants as step
 use Rattle.bins.specs.Engine.{bitNo}
@@ -18,28 +19,29 @@ use Rattle.bins.specs.Tags.{tag, bypassNo, alignTag, low, high, isEntry}
 use Rattle.bins.specs.Interval.{placeOf}
 use Rattle.bins.specs.Syn.{Took, took, refused, Out, onward, run, pickBin, binOf}
 use Rattle.bins.specs.Readers.{bitsS}
-use Rattle.bins.specs.Laws.{After, RefusedBy}
-use Rattle.bins.specs.Sources.{stepOf, stepOfBits, behind, entryBin, entryAlign, byEntries, entriesOn, Tagged}
+use Rattle.bins.specs.Laws.{After}
+use Rattle.bins.specs.Sources.{stepOf, stepOfBits, stopped, behind, entryBin, entryAlign, byEntries, entriesOn, Tagged}
 
 pub bit-small : (b : Bool) → bitNo b < 2
 bit-small true = omega arith
 bit-small false = omega arith
 
-pub step-took : (t : Took Interval) (r : Step) (v : ℕ) (x : Interval) → r ≡ stepOf t → r ≡ step.Bin v x → (b : Bool) × (v ≡ bitNo b) × (t ≡ took b x)
-step-took (took b y) r v x p q = (b, cc, let e : y ≡ x = cc in ap (took b) e)
-step-took (refused n) r v x p q = let z : _≡_ {A = ℕ} 0 1 = cc in absurd (omega arith)
+-- x is the interval before the step
+pub step-took : (x : Interval) (t : Took Interval) (r : Step) (v : ℕ) (y : Interval) → r ≡ stepOf x t → r ≡ step.Bin v y → (b : Bool) × (v ≡ bitNo b) × (t ≡ took b y)
+step-took x (took b z) r v y p q = (b, cc, let e : z ≡ y = cc in ap (took b) e)
+step-took x (refused n) r v y p q = let z : _≡_ {A = ℕ} 0 1 = cc in absurd (omega arith)
 
-pub step-refused : (t : Took Interval) (r : Step) (n : ℕ) → r ≡ stepOf t → r ≡ step.Refused n → t ≡ refused n
-step-refused (took b y) r n p q = let z : _≡_ {A = ℕ} 0 1 = cc in absurd (omega arith)
-step-refused (refused m) r n p q = let e : m ≡ n = cc in ap refused e
+pub step-refused : (x : Interval) (t : Took Interval) (r : Step) (n : Refusal) → r ≡ stepOf x t → r ≡ stopped n → (t ≡ refused (n .number)) × (x ≡ n .at)
+step-refused x (took b y) r n p q = let z : _≡_ {A = ℕ} 0 1 = cc in absurd (omega arith)
+step-refused x (refused m) r n p q = let e : m ≡ n .number = cc in (ap refused e, cc)
 
 pub bits-took : (o : Out Interval ℕ) (r : Step) (v : ℕ) (x : Interval) → r ≡ stepOfBits o → r ≡ step.Bin v x → o ≡ Out.ok v x
 bits-took (Out.ok w y) r v x p q = let e : w ≡ v = cc in let f : y ≡ x = cc in cc
 bits-took (Out.no n y) r v x p q = let z : _≡_ {A = ℕ} 0 1 = cc in absurd (omega arith)
 
-pub bits-refused : (o : Out Interval ℕ) (r : Step) (n : ℕ) → r ≡ stepOfBits o → r ≡ step.Refused n → RefusedBy n o
+pub bits-refused : (o : Out Interval ℕ) (r : Step) (n : Refusal) → r ≡ stepOfBits o → r ≡ stopped n → o ≡ Out.no (n .number) (n .at)
 bits-refused (Out.ok w y) r n p q = let z : _≡_ {A = ℕ} 0 1 = cc in absurd (omega arith)
-bits-refused (Out.no m y) r n p q = let e : m ≡ n = cc in (y, ap (λ k. Out.no k y) e)
+bits-refused (Out.no m y) r n p q = let e : m ≡ n .number = cc in let f : y ≡ n .at = cc in cc
 
 -- ---- one entry of a list, as the code looks at it: its two bytes as a number
 tagged-is : (l : List ℕ) (i t u : ℕ) → Tagged l i t → t ≡ u → isEntry (getD l i 0) (getD l (i + 1) 0) u ≡ true
@@ -62,12 +64,12 @@ tagged-not l i t u h q = go (eqb (getD l i 0) (low u)) refl (eqb (getD l (i + 1)
 -- i is the place, t the tag that was found there, y the interval behind the entry
 module _ (l : List ℕ) (x : Interval) (i : ℕ) (at : i ≡ placeOf x) where
   module _ (c : ℕ) where
-    entry-zero : (t : ℕ) (y : Interval) → i + 1 < length l → Tagged l i t → t ≡ 2 * c → y ≡ behind x → step.Bin 0 y ≡ stepOf (entryBin l c x)
+    entry-zero : (t : ℕ) (y : Interval) → i + 1 < length l → Tagged l i t → t ≡ 2 * c → y ≡ behind x → step.Bin 0 y ≡ stepOf x (entryBin l c x)
     unfolding entryBin binOf pickBin
     entry-zero t y h g q e =
         rw (lt-ltb (placeOf x + 1) (length l) (rw at at h), tagged-is l (placeOf x) t (2 * c + 0) (rw at at g) (omega arith)) (ap (step.Bin 0) e)
 
-    entry-one : (t : ℕ) (y : Interval) → i + 1 < length l → Tagged l i t → t ≡ 2 * c + 1 → y ≡ behind x → step.Bin 1 y ≡ stepOf (entryBin l c x)
+    entry-one : (t : ℕ) (y : Interval) → i + 1 < length l → Tagged l i t → t ≡ 2 * c + 1 → y ≡ behind x → step.Bin 1 y ≡ stepOf x (entryBin l c x)
     unfolding entryBin binOf pickBin
     entry-one t y h g q e =
         let k : Tagged l (placeOf x) t = rw at at g in
@@ -75,10 +77,10 @@ module _ (l : List ℕ) (x : Interval) (i : ℕ) (at : i ≡ placeOf x) where
         (ap (step.Bin 1) e)
 
     -- the number is the entry's half, the bin what is left of it
-    pub entry-half : (t : ℕ) (y : Interval) → i + 1 < length l → Tagged l i t → t / 2 ≡ c → y ≡ behind x → step.Bin (t % 2) y ≡ stepOf (entryBin l c x)
+    pub entry-half : (t : ℕ) (y : Interval) → i + 1 < length l → Tagged l i t → t / 2 ≡ c → y ≡ behind x → step.Bin (t % 2) y ≡ stepOf x (entryBin l c x)
     entry-half t y h g q e = go (eqb (t % 2) 0) refl
       where
-        go : (b : Bool) → eqb (t % 2) 0 ≡ b → step.Bin (t % 2) y ≡ stepOf (entryBin l c x)
+        go : (b : Bool) → eqb (t % 2) 0 ≡ b → step.Bin (t % 2) y ≡ stepOf x (entryBin l c x)
         go true z =
             let r : t % 2 ≡ 0 = eqb-true _ _ z in
             ap (λ (n : ℕ). step.Bin n y) r ∙ entry-zero t y h g (omega arith) e
@@ -86,45 +88,28 @@ module _ (l : List ℕ) (x : Interval) (i : ℕ) (at : i ≡ placeOf x) where
             let r : t % 2 ≡ 1 = omega (arith, eqb-false (t % 2) 0 z) in
             ap (λ (n : ℕ). step.Bin n y) r ∙ entry-one t y h g (omega arith) e
 
-    pub entry-other : (t : ℕ) → i + 1 < length l → Tagged l i t → (t / 2 ≡ c → ⊥) → step.Refused 13 ≡ stepOf (entryBin l c x)
+    pub entry-other : (t : ℕ) → i + 1 < length l → Tagged l i t → (t / 2 ≡ c → ⊥) → step.Refused 13 x ≡ stepOf x (entryBin l c x)
     unfolding entryBin binOf pickBin
     entry-other t h g p =
         let k : Tagged l (placeOf x) t = rw at at g in
         rw (lt-ltb (placeOf x + 1) (length l) (rw at at h), tagged-not l (placeOf x) t (2 * c + 0) k (λ z. p (omega arith)), tagged-not l (placeOf x) t (2 * c + 1) k (λ z. p (omega arith)))
 
-    pub entry-none : length l ≤ i + 1 → step.Refused 13 ≡ stepOf (entryBin l c x)
+    pub entry-none : length l ≤ i + 1 → step.Refused 13 x ≡ stepOf x (entryBin l c x)
     unfolding entryBin
     entry-none h = rw (le-ltb (placeOf x + 1) (length l) (rw at at h))
 
-  pub align-entry : (t : ℕ) (y : Interval) → i + 1 < length l → Tagged l i t → t ≡ alignTag → y ≡ behind x → step.Bin 0 y ≡ stepOf (entryAlign l x)
+  pub align-entry : (t : ℕ) (y : Interval) → i + 1 < length l → Tagged l i t → t ≡ alignTag → y ≡ behind x → step.Bin 0 y ≡ stepOf x (entryAlign l x)
   unfolding entryAlign
   align-entry t y h g q e =
       rw (lt-ltb (placeOf x + 1) (length l) (rw at at h), tagged-is l (placeOf x) t alignTag (rw at at g) q) (ap (step.Bin 0) e)
 
-  pub align-other : (t : ℕ) → i + 1 < length l → Tagged l i t → (t ≡ alignTag → ⊥) → step.Refused 13 ≡ stepOf (entryAlign l x)
+  pub align-other : (t : ℕ) → i + 1 < length l → Tagged l i t → (t ≡ alignTag → ⊥) → step.Refused 13 x ≡ stepOf x (entryAlign l x)
   unfolding entryAlign
   align-other t h g p = rw (lt-ltb (placeOf x + 1) (length l) (rw at at h), tagged-not l (placeOf x) t alignTag (rw at at g) p)
 
-  pub align-none : length l ≤ i + 1 → step.Refused 13 ≡ stepOf (entryAlign l x)
+  pub align-none : length l ≤ i + 1 → step.Refused 13 x ≡ stepOf x (entryAlign l x)
   unfolding entryAlign
   align-none h = rw (le-ltb (placeOf x + 1) (length l) (rw at at h))
-
--- a list refuses by 13 alone
-is-13 : (b : Bool) (t : Took Interval) (n : ℕ) → ((m : ℕ) → t ≡ refused m → m ≡ 13) → cond b t (refused 13) ≡ refused n → n ≡ 13
-is-13 true t n f q = f n q
-is-13 false t n f q = cc
-
-pick-13 : (u v : Bool) (x : Interval) (n : ℕ) → pickBin u v (refused 13) (λ b. took b x) ≡ refused n → n ≡ 13
-unfolding pickBin
-pick-13 true v x n q = let z : _≡_ {A = ℕ} 0 1 = cc in absurd (omega arith)
-pick-13 false true x n q = let z : _≡_ {A = ℕ} 0 1 = cc in absurd (omega arith)
-pick-13 false false x n q = cc
-
-pub entry-13 : (l : List ℕ) (c : ℕ) (x : Interval) (n : ℕ) → entryBin l c x ≡ refused n → n ≡ 13
-unfolding entryBin binOf
-entry-13 l c x n q =
-    is-13 (ltb (placeOf x + 1) (length l)) (binOf c (getD l (placeOf x) 0) (getD l (placeOf x + 1) 0) (refused 13) (λ b. took b (behind x))) n
-    (λ m r. pick-13 (isEntry (getD l (placeOf x) 0) (getD l (placeOf x + 1) 0) (tag c false)) (isEntry (getD l (placeOf x) 0) (getD l (placeOf x + 1) 0) (tag c true)) (behind x) m r) q
 
 -- ---- several entries: what is left to read, as the loop has it
 module _ (l : List ℕ) (n i v : ℕ) (x y : Interval) where
@@ -165,9 +150,9 @@ entries-begin l n x h =
     record { few = omega arith; fits = h; small = omega arith; left = ap (λ m. entriesOn l m 0 x) s }
 
 pub entries-again : (l : List ℕ) (n i v : ℕ) (x y : Interval) (r : Step) (b : ℕ) (z : Interval) → Entries l n i v x y → i < n
-    → r ≡ stepOf (entryBin l bypassNo y) → r ≡ step.Bin b z → (b < 2) × Entries l n (i + 1) (v * 2 + b) x z
+    → r ≡ stepOf y (entryBin l bypassNo y) → r ≡ step.Bin b z → (b < 2) × Entries l n (i + 1) (v * 2 + b) x z
 entries-again l n i v x y r b z h k p q =
-    let t = step-took (entryBin l bypassNo y) r b z p q in
+    let t = step-took y (entryBin l bypassNo y) r b z p q in
     let d = bit-small (t .0) in
     let e : b ≡ bitNo (t .0) = t .1 in
     let f : placeOf z ≤ length l = subst (After (λ u. placeOf u ≤ length l)) (t .2) (bin-readable l bypassNo y) in
@@ -181,12 +166,11 @@ entries-again l n i v x y r b z h k p q =
       },
     )
 
-pub entries-stop : (l : List ℕ) (n i v : ℕ) (x y : Interval) (r : Step) (m : ℕ) → Entries l n i v x y → i < n
-    → r ≡ stepOf (entryBin l bypassNo y) → r ≡ step.Refused m → step.Refused 13 ≡ stepOfBits (entriesOn l n 0 x)
+pub entries-stop : (l : List ℕ) (n i v : ℕ) (x y : Interval) (r : Step) (m : Refusal) → Entries l n i v x y → i < n
+    → r ≡ stepOf y (entryBin l bypassNo y) → r ≡ stopped m → r ≡ stepOfBits (entriesOn l n 0 x)
 entries-stop l n i v x y r m h k p q =
-    let t = step-refused (entryBin l bypassNo y) r m p q in
-    let e : 13 ≡ m = sym (entry-13 l bypassNo y m t) in
-    ap step.Refused e ∙ ap stepOfBits (sym (left-refused l n i v x y (h .left) k m t))
+    let t = step-refused y (entryBin l bypassNo y) r m p q in
+    q ∙ ap (step.Refused (m .number)) (sym (t .1)) ∙ ap stepOfBits (sym (left-refused l n i v x y (h .left) k (m .number) (t .0)))
 
 pub entries-end : (l : List ℕ) (n i v : ℕ) (x y : Interval) → Entries l n i v x y → n ≤ i → step.Bin v y ≡ stepOfBits (entriesOn l n 0 x)
 entries-end l n i v x y h k = ap stepOfBits (sym (left-done l n i v x y (h .left) k))

@@ -1,6 +1,8 @@
 // The arithmetic engine's state, between calls and while a block is read.
 use crate::places::BitPlace;
+use crate::places::SourcePlace;
 ghost use mathlib.Core.Path.{_≡_};
+ghost use Rattle.bins.specs.Sources.{refusalOf};
 
 // Between calls: range, offset, position, an ended mark, and how many bits past the end were supplied since the first start, to 65,535.
 pub struct Engine {
@@ -11,11 +13,11 @@ pub struct Engine {
     pub past: u32,
 }
 
-// The engine's state while a block is read: what it is in between is no state to hand out.
+// The engine's state while a block is read: what it is in between is no state to hand out. From a bin list only the place moves.
 pub struct Interval {
     pub range: u32,
     pub offset: u32,
-    pub position: BitPlace,
+    pub position: SourcePlace,
 }
 
 // Bins as a number, and the state behind them.
@@ -24,10 +26,26 @@ pub struct Taken {
     pub next: Interval,
 }
 
-// The same, or the number of a refusal.
+// A refusal: its number, and the state at which it arose.
+pub struct Refusal {
+    pub number: u32,
+    pub at: Interval,
+}
+
+// Bins with the state behind them, or a refusal by its number and the state at which it arose: as two fields they lie where the bins do, and a step stays small.
 pub enum Step {
     Bin(u32, Interval),
-    Refused(u32),
+    Refused(u32, Interval),
+}
+
+// The refusal of a step; of a bin, number 0 behind it.
+pub fn refusal_of(s: Step) -> Refusal
+    ensures { λ r. ⌜ r ≡ refusalOf s ⌝ }
+{
+    match s {
+        Step::Bin(_, y) => Refusal { number: 0, at: y },
+        Step::Refused(number, at) => Refusal { number, at },
+    }
 }
 
 // A step that is not refused.

@@ -2,6 +2,7 @@
 use bins::fetch::Drawn;
 use bins::places::BitPlace;
 use bins::places::byte_of;
+use bins::places::end_of;
 ghost use mathlib.Core.Path.{_≡_};
 ghost use Prim.Native.Nat.{_+_, _*_, _/_, _%_, _≤_, _<_, min};
 ghost use lib.ListN.{length, getD};
@@ -120,7 +121,8 @@ fn cut(bytes: &[u8], at: BitPlace) -> BitPlace
     ensures { λ r. ⌜ r .0 ≡ min (at .0) (ends (now (bytes .entry)) + pastMost) ⌝ }
 {
     let p = at.0;
-    let most = 8 * bytes.len() + 65535;
+    let end = end_of(bytes);
+    let most = end.0 + 65535;
     if p < most {
         BitPlace(p)
     } else {
@@ -134,7 +136,7 @@ fn beyond(bytes: &[u8], at: BitPlace, c: u32) -> u32
     ensures { λ r. ⌜ r ≡ over (now (bytes .entry)) (at .0) c ⌝ }
 {
     let p = at.0 + c as usize;
-    let end = 8 * bytes.len();
+    let end = end_of(bytes).0;
     if p <= end {
         return 0;
     }

@@ -1,3 +1,3 @@
-// What the bench links: the block readers and the bin writer as functions that C and Rust call.
-pub mod blocks; // blocks.rt: the two block readers
-pub mod lists; // lists.rt: the writer of bins
+// What a block reader and the bin writer answer to C and Rust.
+pub mod blocks; // blocks.rt: the readers' answers
+pub mod lists; // lists.rt: the writer's answer, and what it is handed

@@ -1,18 +1,15 @@
-// The writer of bins.
+// What the writer of bins is handed, and what it answers.
 use bulmegart::records::BlockParams;
 use bulmegart::records::flag_refusal;
-use bulmegart::records::is_set;
 use bulmegart::records::or_else;
 use bulmegart::records::params_flags;
-use bulmegart::records::params_of;
 use hevc_residual::params::Rdpcm;
 use hevc_writer::entries::Written;
-use hevc_writer::entries::write_bins;
 ghost use mathlib.Core.Path.{_≡_};
 ghost use Rattle.cabac.specs.Numbers.{_orElse_};
 ghost use Rattle.bulmegart.specs.Records.{flagRefusal, paramsFlags};
 ghost use Rattle.hevc_writer.specs.EntriesPuts.{writtenSays};
-ghost use Rattle.bulmegart_blocks.specs.Lists.{choiceRefusal, choiceOf, writeGiven, writeLeft, writeBlock};
+ghost use Rattle.bulmegart_blocks.specs.Lists.{choiceRefusal, choiceOf, writeGiven};
 
 // The list's length; 0 after a refusal.
 #[repr(C)]
@@ -63,31 +60,4 @@ pub fn write_answer(r: Written) -> WriteAnswer
             length: 0,
         },
     }
-}
-
-// One block as a bin list in the room.
-#[no_mangle]
-pub extern "C" fn bulmegart_write_bins(
-    params: BlockParams,
-    statistics: &mut [u8; 4],
-    levels: &[i32],
-    skip: u8,
-    rdpcm: u8,
-    room: &mut [u8],
-) -> WriteAnswer
-    ensures { λ r. ⌜ writeLeft r (now (statistics .exit)) (now (room .exit)) ≡ writeBlock params (now (statistics .entry)) (now (levels .entry)) skip rdpcm (now (room .entry)) ⌝ }
-{
-    let n = write_handed(params, skip, rdpcm);
-    if n != 0 {
-        return write_answer(Written::Refused(n));
-    }
-    let r = write_bins(
-        params_of(params),
-        statistics,
-        levels,
-        is_set(skip),
-        choice_of(rdpcm),
-        room,
-    );
-    write_answer(r)
 }

@@ -1,2 +1,2 @@
-// What the bench links: the cross-component scale's entry points as functions that C and Rust call.
-pub mod scales; // scales.rt: the cross-component scale
+// What the bench links: the cross-component scale out of a payload, as a function that C and Rust call.
+pub mod scales; // scales.rt: the answers, and the payload's reader

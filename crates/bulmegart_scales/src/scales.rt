@@ -4,16 +4,11 @@ use bulmegart::records::EngineState;
 use bulmegart::records::engine_of;
 use bulmegart::records::state_handed;
 use bulmegart::records::state_of;
-use bulmegart_blocks::lists::WriteAnswer;
-use bulmegart_blocks::lists::write_answer;
 use hevc_scale::entries::Read;
-use hevc_scale::entries::ReadList;
 use hevc_scale::entries::read_scale;
-use hevc_scale::entries::read_scale_bins;
-use hevc_scale::entries::write_scale_bins;
 ghost use mathlib.Core.Path.{_≡_};
-ghost use Rattle.hevc_scale.specs.EntriesAgree.{readSays, binsRead};
-ghost use Rattle.bulmegart_scales.specs.Scales.{scaleGiven, scaleListGiven, scaleLeft, readScale, readScaleList, scaleWritten, writeScale};
+ghost use Rattle.hevc_scale.specs.EntriesAgree.{readSays};
+ghost use Rattle.bulmegart_scales.specs.Scales.{scaleGiven, scaleLeft, readScale};
 
 #[repr(C)]
 pub struct ScaleAnswer {
@@ -45,21 +40,6 @@ fn scale_answer(r: Read, s: EngineState) -> ScaleAnswer
     }
 }
 
-fn scale_list_answer(r: ReadList) -> ScaleListAnswer
-    ensures { λ a. ⌜ a ≡ scaleListGiven (binsRead r) ⌝ }
-{
-    match r {
-        ReadList::Scale(z) => ScaleListAnswer {
-            number: 0,
-            scale: z,
-        },
-        ReadList::Refused(n) => ScaleListAnswer {
-            number: n,
-            scale: 0,
-        },
-    }
-}
-
 // The scale of a chroma component, from a payload.
 #[no_mangle]
 pub extern "C" fn bulmegart_read_scale(
@@ -76,24 +56,4 @@ pub extern "C" fn bulmegart_read_scale(
     }
     let r = read_scale(payload, engine_of(state), contexts, component);
     scale_answer(r, state)
-}
-
-// The same from a bin list, which it must end.
-#[no_mangle]
-pub extern "C" fn bulmegart_read_scale_bins(list: &[u8], component: u32) -> ScaleListAnswer
-    ensures { λ r. ⌜ r ≡ readScaleList (now (list .entry)) component ⌝ }
-{
-    scale_list_answer(read_scale_bins(list, component))
-}
-
-// One scale as a bin list in the room.
-#[no_mangle]
-pub extern "C" fn bulmegart_write_scale_bins(
-    component: u32,
-    scale: i32,
-    room: &mut [u8],
-) -> WriteAnswer
-    ensures { λ r. ⌜ scaleWritten r (now (room .exit)) ≡ writeScale component scale (now (room .entry)) ⌝ }
-{
-    write_answer(write_scale_bins(component, scale, room))
 }

@@ -1,6 +1,9 @@
 // The engine's state (H.265 9.3.4.3): what is refused of it, how a reader opens it and what a caller sees of it; the answers of the entry points over it.
 use bins::fetch::Drawn;
 use bins::places::BitPlace;
+use bins::places::end_of;
+use bins::places::in_payload;
+use bins::places::of_payload;
 use bins::state::Engine;
 use bins::state::Interval;
 use bins::state::Taken;
@@ -50,7 +53,8 @@ pub fn state_refusal(bytes: &[u8], e: Engine) -> u32
     ensures { λ r. ⌜ r ≡ stateRefusal (now (bytes .entry)) e ⌝ }
 {
     let at = e.position.0;
-    if 8 * bytes.len() < at {
+    let end = end_of(bytes);
+    if end.0 < at {
         return 3;
     }
     if 65535 < e.past {
@@ -101,10 +105,11 @@ pub fn open(e: Engine) -> Interval
     ensures { λ r. ⌜ r ≡ opened e ⌝ }
 {
     let at = e.position;
+    let position = of_payload(at);
     Interval {
         range: e.range,
         offset: e.offset,
-        position: at,
+        position,
     }
 }
 
@@ -127,8 +132,8 @@ fn cut(bytes: &[u8], at: BitPlace) -> BitPlace
     requires { ⌜ length (now bytes) ≤ 16777216 ⌝ }
     ensures { λ r. ⌜ r .0 ≡ min (at .0) (ends (now (bytes .entry))) ⌝ }
 {
-    let end = 8 * bytes.len();
-    if end < at.0 { BitPlace(end) } else { at }
+    let end = end_of(bytes);
+    if end.0 < at.0 { end } else { at }
 }
 
 // How far past the end a place ran on.
@@ -136,8 +141,8 @@ fn ran_past(bytes: &[u8], at: BitPlace) -> usize
     requires { ⌜ length (now bytes) ≤ 16777216 ⌝ }
     ensures { λ r. ⌜ r ≡ at .0 - ends (now (bytes .entry)) ⌝ }
 {
-    let end = 8 * bytes.len();
-    if end < at.0 { at.0 - end } else { 0 }
+    let end = end_of(bytes);
+    if end.0 < at.0 { at.0 - end.0 } else { 0 }
 }
 
 // What the caller sees of it: the place cut to the end, and what is cut off added to the total.
@@ -145,7 +150,8 @@ pub fn settle(bytes: &[u8], e: Engine, x: Interval) -> Engine
     requires { ⌜ length (now bytes) ≤ 16777216 ⌝ }
     ensures { λ r. ⌜ r ≡ settled (now (bytes .entry)) e x ⌝ }
 {
-    let ran = x.position;
+    let position = x.position;
+    let ran = in_payload(position);
     let past = added_to(e.past, ran_past(bytes, ran));
     let at = cut(bytes, ran);
     Engine {

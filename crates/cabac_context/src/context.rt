@@ -1,7 +1,7 @@
 // A context that is lent: a decision reads its packed byte, and stores the next one.
 use bins::state::Engine;
 use cabac::engine::Decision;
-use cabac_engine::engine;
+use cabac_bins::decode;
 ghost use mathlib.Core.Path.{_≡_};
 ghost use Rattle.cabac_context.specs.Lent.{lentSays, onLent};
 
@@ -26,7 +26,7 @@ pub struct Turn {
 pub fn decide(bytes: &[u8], e: Engine, packed: u8) -> Turn
     ensures { λ r. ⌜ lentSays (r .bit) (r .packed) ≡ onLent (now (bytes .entry)) e packed ⌝ }
 {
-    match engine::decode_bin(bytes, e, packed) {
+    match decode::decode_bin(bytes, e, packed) {
         Decision::Bin(bit, next, state) => Turn {
             packed: next,
             bit: Bit::Read(bit, state),

@@ -5,6 +5,7 @@ use mathlib.Core.Bool.{Bool, false}
 use mathlib.Core.List.{List}
 use lib.IntN.{ℤ, pos}
 use lib.ListN.{length, replicate, length-replicate}
+use Rattle.bins.specs.declared.state.Refusal.{Refusal}
 use Rattle.bins.specs.declared.state.Interval.{Interval}
 use Rattle.bins.specs.Syn.{done, _>>=_, Out}
 use Rattle.bins.specs.Sources.{cursor, byCode}
@@ -16,10 +17,10 @@ use Rattle.hevc_residual.specs.Head.{headS}
 use Rattle.hevc_residual.specs.SubBlock.{Acc}
 use Rattle.hevc_residual.specs.Extent.{columnExtentOf, rowExtentOf}
 use Rattle.hevc_residual.specs.Residual.{Block, bodyS, residual, subBlocksS, greatestOf}
-use Rattle.hevc_elements.specs.declared.head.Head.{Head}
-use Rattle.hevc_elements.specs.declared.head.Headed.{Headed}
-use Rattle.hevc_elements.specs.declared.head.Headed.the-variants as headed
-use Rattle.hevc_elements.specs.HeadAgree.{headOf, SaysHead}
+use Rattle.hevc_head.specs.declared.head.Head.{Head}
+use Rattle.hevc_head.specs.declared.head.Headed.{Headed}
+use Rattle.hevc_head.specs.declared.head.Headed.the-variants as headed
+use Rattle.hevc_head.specs.HeadAgree.{headOf, SaysHead}
 use Rattle.trees.specs.Reached.{each-run}
 use Rattle.hevc_bounds.specs.Pieces.{head-each}
 use Rattle.hevc_bounds.specs.ResidualBounds.{last-few, last-in-few}
@@ -33,12 +34,12 @@ use Rattle.hevc_block.specs.declared.block.Found.{Found}
 use Rattle.hevc_rules.specs.SubsAgree.{Last, begun, lastOf, lastInOf}
 use Rattle.hevc_block.specs.SubsAgree.{SaysSubs}
 use Rattle.hevc_extents.specs.ExtentLaws.{column-gathered}
-use Rattle.hevc_block.specs.BlockAgree.{blockOf, headedNo, carriedNo}
+use Rattle.hevc_block.specs.BlockAgree.{blockOf, headedRefusal, carriedRefusal}
 
 -- ---- behind the head
 module _ (p : Params) (a : Accepted p) (list : Bool) (l : List ℕ) (x : Interval) (cs : List ℕ) (stats : List ℕ) (r : Headed) (ds : List ℕ)
     (e : SaysHead r ds (from list l (headS p (outerOf p) (innerOf p)) x cs)) where
-  pub head-refused : (n : ℕ) → r ≡ headed.Refused n → RefusedBy n (from list l (residual p stats) x cs)
+  pub head-refused : (n : Refusal) → r ≡ headed.Refused n → RefusedBy n (from list l (residual p stats) x cs)
   unfolding residual
   head-refused n q =
       let f : RefusedBy n (from list l (headS p (outerOf p) (innerOf p)) x cs) = subst (λ (z : Headed). SaysHead z ds (from list l (headS p (outerOf p) (innerOf p)) x cs)) q e in
@@ -88,7 +89,7 @@ module _ (p : Params) (a : Accepted p) (list : Bool) (l : List ℕ) (x : Interva
           subst (λ (z : List Bool). SaysSubs p h list l y ds z levels₀ stats s es coded′ levels′ stats′) k
           (subst (λ (z : List ℤ). SaysSubs p h list l y ds coded z stats s es coded′ levels′ stats′) m d)
 
-      pub subs-refused : (n : ℕ) → s ≡ carried.Refused n → RefusedBy n (from list l (residual p stats) x cs)
+      pub subs-refused : (n : Refusal) → s ≡ carried.Refused n → RefusedBy n (from list l (residual p stats) x cs)
       subs-refused n u =
           let f : RefusedBy n (from list l subs y ds) = subst (λ (z : Carried). SaysSubs p h list l y ds coded₀ levels₀ stats z es coded′ levels′ stats′) u here in
           let b = bind-no (byCode list l) subs finish (cursor y ds) n f in
@@ -111,11 +112,11 @@ module _ (p : Params) (a : Accepted p) (list : Bool) (l : List ℕ) (x : Interva
           ∙ ap (λ (t : Block). Out.ok t (cursor z es)) b
 
 -- ---- the number of a refusal, as the code hands it on
-pub headed-number : (r : Headed) (m n : ℕ) → r ≡ headed.Refused m → n ≡ headedNo r → r ≡ headed.Refused n
-headed-number r m n q e = q ∙ ap headed.Refused (sym (e ∙ ap headedNo q))
+pub headed-number : (r : Headed) (m n : Refusal) → r ≡ headed.Refused m → n ≡ headedRefusal r → r ≡ headed.Refused n
+headed-number r m n q e = q ∙ ap headed.Refused (sym (e ∙ ap headedRefusal q))
 
-pub carried-number : (r : Carried) (m n : ℕ) → r ≡ carried.Refused m → n ≡ carriedNo r → r ≡ carried.Refused n
-carried-number r m n q e = q ∙ ap carried.Refused (sym (e ∙ ap carriedNo q))
+pub carried-number : (r : Carried) (m n : Refusal) → r ≡ carried.Refused m → n ≡ carriedRefusal r → r ≡ carried.Refused n
+carried-number r m n q e = q ∙ ap carried.Refused (sym (e ∙ ap carriedRefusal q))
 
 pub zeros-long : (p : Params) (l : List ℤ) → l ≡ replicate (area p) (pos 0) → length l ≡ area p
 zeros-long p l q = ap (λ (l : List ℤ). length l) q ∙ length-replicate (area p) (pos 0)

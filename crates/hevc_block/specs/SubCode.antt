@@ -7,10 +7,11 @@ use lib.IntN.{ℤ}
 use lib.ListN.{getD, set}
 use lib.Dec.{ltb, eqb}
 use Rattle.bins.specs.declared.state.Interval.{Interval}
+use Rattle.bins.specs.declared.state.Refusal.{Refusal}
 use Rattle.bins.specs.declared.state.Step.{Step}
 use Rattle.bins.specs.declared.state.Step.the-variants as step
 use Rattle.bins.specs.Syn.{Out}
-use Rattle.bins.specs.Sources.{Cursor, cursor}
+use Rattle.bins.specs.Sources.{Cursor, cursor, stopped, refusalOf}
 use Rattle.bins.specs.Laws.{RefusedBy}
 use Rattle.hevc_residual.specs.declared.params.Params.{Params}
 use Rattle.hevc_residual.specs.Scan.{spot}
@@ -18,8 +19,8 @@ use Rattle.hevc_residual.specs.Wanted.{Wanted, width, outerOf, innerOf, wantedI
 use Rattle.hevc_residual.specs.Head.{skipOrBypass}
 use Rattle.hevc_residual.specs.SubBlock.{Acc, placesS}
 use Rattle.hevc_residual.specs.Residual.{ctxSetBy, subBlockS}
-use Rattle.hevc_elements.specs.declared.head.Head.{Head}
-use Rattle.hevc_elements.specs.HeadAgree.{headOf}
+use Rattle.hevc_head.specs.declared.head.Head.{Head}
+use Rattle.hevc_head.specs.HeadAgree.{headOf}
 use Rattle.hevc_elements.specs.Agree.{Reads, from, SaysFlag}
 use Rattle.hevc_rules.specs.declared.places.Places.{Places}
 use Rattle.hevc_subblock.specs.declared.places.Placed.{Placed}
@@ -28,11 +29,11 @@ use Rattle.hevc_rules.specs.declared.coeffs.Carry.{Carry}
 use Rattle.hevc_subblock.specs.declared.coeffs.Carried.{Carried}
 use Rattle.hevc_rules.specs.Packing.{Packs, unpacked}
 use Rattle.hevc_rules.specs.PlacesAgree.{sigNumber}
-use Rattle.hevc_subblock.specs.PlacesAgree.{SaysPlaces, refusalOf}
+use Rattle.hevc_subblock.specs.PlacesAgree.{SaysPlaces}
 use Rattle.hevc_rules.specs.CoeffsAgree.{accOf}
 use Rattle.hevc_subblock.specs.CoeffsAgree.{SaysCoeffs}
 use Rattle.hevc_rules.specs.SubsAgree.{near, flagNumber, flagOr, Met}
-use Rattle.hevc_block.specs.SubsAgree.{placedNo, SaysSub}
+use Rattle.hevc_block.specs.SubsAgree.{placedRefusal, SaysSub}
 use Rattle.hevc_rules.specs.SmallLaws.{flag-number-is}
 use Rattle.hevc_rules.specs.SubsLaws.{flagS, flagNo, placesT, ctxOf, places-is}
 use Rattle.hevc_block.specs.SubsLaws.{sub-flag-refused, sub-none, sub-reads, sub-places-refused, sub-packs, sub-reads-on, sub-empty, sub-levels}
@@ -56,7 +57,7 @@ module _ (p : Params) (h : Head) (last lastin i xs ys : ℕ) (q : getD (outerOf 
           subst (λ (z : Bool). SaysFlag f cs′ (from list l (flagOr z (flagNo p h last lastin i xs ys q coded) u) x cs)) em
           (subst (λ k. SaysFlag f cs′ (from list l (flagOr mid k u) x cs)) m (e u))
 
-      pub flag-refused : (n k : ℕ) → f ≡ step.Refused n → k ≡ refusalOf f → RefusedBy k whole
+      pub flag-refused : (n k : Refusal) → f ≡ stopped n → k ≡ refusalOf f → RefusedBy k whole
       flag-refused n k u v =
           subst (λ z. RefusedBy z whole) (sym (v ∙ ap refusalOf u)) (sub-flag-refused p h last lastin i xs ys q list l c coded levels stats x cs cs′ f said n u)
 
@@ -78,9 +79,9 @@ module _ (p : Params) (h : Head) (last lastin i xs ys : ℕ) (q : getD (outerOf 
               ∙ ap (λ (ctx : ℕ → ℕ). placesT p h last lastin i xs ys q ctx) a in
               subst (λ z. SaysPlaces r cs″ (from list l z y cs′)) t (d (wantedIn p (innerOf p) (spot xs ys)))
 
-          pub places-refused : (n k : ℕ) → r ≡ placed.Refused n → k ≡ placedNo r → RefusedBy k whole
+          pub places-refused : (n k : Refusal) → r ≡ placed.Refused n → k ≡ placedRefusal r → RefusedBy k whole
           places-refused n k a b =
-              subst (λ z. RefusedBy z whole) (sym (b ∙ ap placedNo a))
+              subst (λ z. RefusedBy z whole) (sym (b ∙ ap placedRefusal a))
               (sub-places-refused p h last lastin i xs ys q list l c coded levels stats x cs cs′ f said v y u o r cs″ placedSo n a)
 
           module _ (s : Places) (z : Interval) (m : r ≡ placed.Got s z) where

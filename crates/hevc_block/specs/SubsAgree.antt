@@ -4,15 +4,16 @@ use mathlib.Core.Path.{_≡_}
 use mathlib.Core.Bool.{Bool}
 use mathlib.Core.List.{List}
 use lib.IntN.{ℤ}
+use Rattle.bins.specs.declared.state.Refusal.{Refusal}
 use Rattle.bins.specs.declared.state.Interval.{Interval}
 use Rattle.bins.specs.Syn.{Out}
-use Rattle.bins.specs.Sources.{cursor}
+use Rattle.bins.specs.Sources.{cursor, refusedAt}
 use Rattle.bins.specs.Laws.{RefusedBy}
 use Rattle.hevc_residual.specs.declared.params.Params.{Params}
 use Rattle.hevc_residual.specs.Wanted.{outerOf, innerOf}
 use Rattle.hevc_residual.specs.Residual.{subBlockS, subBlocksS}
-use Rattle.hevc_elements.specs.declared.head.Head.{Head}
-use Rattle.hevc_elements.specs.HeadAgree.{headOf}
+use Rattle.hevc_head.specs.declared.head.Head.{Head}
+use Rattle.hevc_head.specs.HeadAgree.{headOf}
 use Rattle.hevc_elements.specs.Agree.{from}
 use Rattle.hevc_subblock.specs.declared.places.Placed.{Placed}
 use Rattle.hevc_subblock.specs.declared.places.Placed.the-variants as placed
@@ -22,9 +23,9 @@ use Rattle.hevc_subblock.specs.declared.coeffs.Carried.the-variants as carried
 use Rattle.hevc_rules.specs.CoeffsAgree.{Carries, accOf}
 use Rattle.hevc_rules.specs.SubsAgree.{begun, lastOf, lastInOf}
 
-abbrev pub placedNo : Placed → ℕ
-placedNo (placed.Got s y) = 0
-placedNo (placed.Refused n) = n
+abbrev pub placedRefusal : Placed → Refusal
+placedRefusal (placed.Got s y) = refusedAt 0 y
+placedRefusal (placed.Refused n) = n
 
 -- one sub-block, number i
 abbrev pub SaysSub : Params → Head → Bool → List ℕ → ℕ → ℕ → ℕ → Carry → Interval → List ℕ → List Bool → List ℤ → List ℕ → Carried → List ℕ → List Bool → List ℤ → List ℕ → Type 0

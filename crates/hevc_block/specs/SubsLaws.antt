@@ -7,19 +7,20 @@ use native.Mathlib.Omega.{arith}
 use lib.IntN.{ℤ}
 use lib.ListN.{getD, set}
 use Rattle.bins.specs.declared.state.Interval.{Interval}
+use Rattle.bins.specs.declared.state.Refusal.{Refusal}
 use Rattle.bins.specs.declared.state.Step.{Step}
 use Rattle.bins.specs.declared.state.Step.the-variants as step
 use Rattle.bins.specs.Engine.{bitNo}
 use Rattle.bins.specs.Syn.{done, _>>=_, Out, run}
-use Rattle.bins.specs.Sources.{cursor, byCode}
+use Rattle.bins.specs.Sources.{cursor, byCode, stopped}
 use Rattle.bins.specs.Laws.{RefusedBy, bind-ok, bind-no}
 use Rattle.hevc_residual.specs.declared.params.Params.{Params}
 use Rattle.hevc_residual.specs.Scan.{spot}
 use Rattle.hevc_residual.specs.Wanted.{Wanted, S, width, outerOf, innerOf, none}
 use Rattle.hevc_residual.specs.SubBlock.{Acc}
 use Rattle.hevc_residual.specs.Residual.{marked, ctxSetOf, filledS, subBlockS}
-use Rattle.hevc_elements.specs.declared.head.Head.{Head}
-use Rattle.hevc_elements.specs.HeadAgree.{headOf}
+use Rattle.hevc_head.specs.declared.head.Head.{Head}
+use Rattle.hevc_head.specs.HeadAgree.{headOf}
 use Rattle.hevc_elements.specs.Agree.{Reads, from, SaysFlag, reads-on, flag-ok, flag-no}
 use Rattle.hevc_elements.specs.ShapeLaws.{run-done}
 use Rattle.hevc_rules.specs.declared.places.Places.{Places}
@@ -65,7 +66,7 @@ module _ (p : Params) (h : Head) (last lastin i xs ys : ℕ) (q : getD (outerOf 
     abbrev whole : S Acc
     whole = subBlockS p (headOf h) (outerOf p) (innerOf p) last lastin i (accOf c coded levels stats)
 
-    pub sub-flag-refused : (n : ℕ) → f ≡ step.Refused n → RefusedBy n (from list l whole x cs)
+    pub sub-flag-refused : (n : Refusal) → f ≡ stopped n → RefusedBy n (from list l whole x cs)
     sub-flag-refused n u =
         let r = bind-no (byCode list l) (flagH wantedH (numberH coded)) (restH (accOf c coded levels stats) (ctxH coded)) (cursor x cs) n (flag-no f n cs′ _ (e wantedH) u) in
         (r .0, ap (λ t. from list l t x cs) (sub-code p h last lastin i xs ys q c coded levels stats) ∙ r .1)
@@ -110,7 +111,7 @@ module _ (p : Params) (h : Head) (last lastin i xs ys : ℕ) (q : getD (outerOf 
     -- ---- r is what the significance loop answered
     module _ (v : ℕ) (y : Interval) (u : f ≡ step.Bin v y) (w : v ≡ 0 → ⊥) (r : Placed) (cs″ : List ℕ)
         (d : SaysPlaces r cs″ (from list l (placesH (ctxH coded)) y cs′)) where
-      pub sub-places-refused : (n : ℕ) → r ≡ placed.Refused n → RefusedBy n (from list l whole x cs)
+      pub sub-places-refused : (n : Refusal) → r ≡ placed.Refused n → RefusedBy n (from list l whole x cs)
       sub-places-refused n z =
           let g : RefusedBy n (from list l (placesH (ctxH coded)) y cs′) = subst (λ (o : Placed). SaysPlaces o cs″ (from list l (placesH (ctxH coded)) y cs′)) z d in
           let k = bind-no (byCode list l) (placesH (ctxH coded)) (λ ks. filledS p (headOf h) (outerOf p) (innerOf p) i (spot xs ys) (accOf c codedNow levels stats) ks) (cursor y cs′) n g in

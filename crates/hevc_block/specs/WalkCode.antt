@@ -6,10 +6,11 @@ use mathlib.Core.List.{List}
 use native.Mathlib.Omega.{arith}
 use lib.IntN.{ℤ}
 use lib.ListN.{length}
+use Rattle.bins.specs.declared.state.Refusal.{Refusal}
 use Rattle.bins.specs.declared.state.Interval.{Interval}
 use Rattle.hevc_residual.specs.declared.params.Params.{Params}
 use Rattle.hevc_residual.specs.Wanted.{area, width}
-use Rattle.hevc_elements.specs.declared.head.Head.{Head}
+use Rattle.hevc_head.specs.declared.head.Head.{Head}
 use Rattle.hevc_elements.specs.Agree.{Reads}
 use Rattle.hevc_rules.specs.declared.coeffs.Carry.{Carry}
 use Rattle.hevc_subblock.specs.declared.coeffs.Carried.{Carried}
@@ -44,7 +45,7 @@ module _ (p : Params) (h : Head) (list : Bool) (l : List ℕ) (x : Interval) (cs
     next : n ≡ suc (n - 1)
     next = omega arith
 
-    pub code-refused : (k : ℕ) → r ≡ carried.Refused k → SaysSubs p h list l x cs coded₀ levels₀ stats₀ r es coded′ levels′ stats′
+    pub code-refused : (k : Refusal) → r ≡ carried.Refused k → SaysSubs p h list l x cs coded₀ levels₀ stats₀ r es coded′ levels′ stats′
     code-refused k u = walk-refused p h list l x cs coded₀ levels₀ stats₀ n c y ds coded levels stats w (n - 1) next r es coded′ levels′ stats′ said k u
 
     pub code-on : (d : Carry) (z : Interval) → r ≡ carried.Got d z → length coded′ ≡ width p * width p → length levels′ ≡ area p → Statistics stats′

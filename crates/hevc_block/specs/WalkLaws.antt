@@ -6,6 +6,7 @@ use mathlib.Core.List.{List}
 use native.Mathlib.Omega.{arith}
 use lib.IntN.{ℤ}
 use lib.ListN.{length}
+use Rattle.bins.specs.declared.state.Refusal.{Refusal}
 use Rattle.bins.specs.declared.state.Interval.{Interval}
 use Rattle.bins.specs.Syn.{done, _>>=_, run}
 use Rattle.bins.specs.Sources.{cursor, byCode}
@@ -14,8 +15,8 @@ use Rattle.hevc_residual.specs.declared.params.Params.{Params}
 use Rattle.hevc_residual.specs.Wanted.{S, area, width, outerOf, innerOf}
 use Rattle.hevc_residual.specs.SubBlock.{Acc}
 use Rattle.hevc_residual.specs.Residual.{subBlockS, subBlocksS}
-use Rattle.hevc_elements.specs.declared.head.Head.{Head}
-use Rattle.hevc_elements.specs.HeadAgree.{headOf}
+use Rattle.hevc_head.specs.declared.head.Head.{Head}
+use Rattle.hevc_head.specs.HeadAgree.{headOf}
 use Rattle.hevc_elements.specs.Agree.{Reads, from, reads-on}
 use Rattle.hevc_elements.specs.ShapeLaws.{run-done}
 use Rattle.hevc_rules.specs.declared.coeffs.Carry.{Carry}
@@ -68,7 +69,7 @@ module _ (p : Params) (h : Head) (list : Bool) (l : List ℕ) (x : Interval) (cs
       abbrev on : Acc → S Acc
       on = λ a. subBlocksS p (headOf h) (outerOf p) (innerOf p) (lastOf p h) (lastInOf p h) i a
 
-      pub walk-refused : (k : ℕ) → r ≡ carried.Refused k → SaysSubs p h list l x cs coded₀ levels₀ stats₀ r es coded′ levels′ stats′
+      pub walk-refused : (k : Refusal) → r ≡ carried.Refused k → SaysSubs p h list l x cs coded₀ levels₀ stats₀ r es coded′ levels′ stats′
       walk-refused k u =
           let f : RefusedBy k (from list l sub y ds) = subst (λ (z : Carried). SaysSub p h list l (lastOf p h) (lastInOf p h) i c y ds coded levels stats z es coded′ levels′ stats′) u e in
           let b = bind-no (byCode list l) sub on (cursor y ds) k f in

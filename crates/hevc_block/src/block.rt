@@ -1,17 +1,18 @@
 // The whole block.
 use crate::subs::sub_blocks;
 use bins::state::Interval;
+use bins::state::Refusal;
 use bins::tags::CONTEXTS;
-use hevc_elements::head::Head;
-use hevc_elements::head::Headed;
-use hevc_elements::head::read_head;
-use hevc_extents::greatest;
 use hevc_extents::greatest_within;
 use hevc_extents::lowest_row;
+use hevc_head::head::Head;
+use hevc_head::head::Headed;
+use hevc_head::head::read_head;
 use hevc_residual::params::Params;
 use hevc_residual::params::Rdpcm;
 use hevc_rules::sizes::grid;
 use hevc_subblock::coeffs::Carried;
+use tree_shapes::levels::greatest;
 ghost use mathlib.Core.Path.{_≡_};
 ghost use Prim.Native.Nat.{_-_};
 ghost use lib.ListN.{length, replicate};
@@ -22,7 +23,7 @@ ghost use Rattle.hevc_elements.specs.Agree.{Reads};
 ghost use Rattle.hevc_residual.specs.Limits.{Accepted, Statistics};
 ghost use Rattle.hevc_residual.specs.Residual.{greatestOf};
 ghost use Rattle.hevc_residual.specs.Extent.{rowExtentOf};
-ghost use Rattle.hevc_block.specs.BlockAgree.{headedNo, carriedNo, foundAt, SaysBlock};
+ghost use Rattle.hevc_block.specs.BlockAgree.{headedRefusal, carriedRefusal, foundAt, SaysBlock};
 
 // What document 01 gives of a block, beside its levels.
 pub struct Found {
@@ -36,24 +37,24 @@ pub struct Found {
 
 pub enum Blocked {
     Got(Found, Interval),
-    Refused(u32),
+    Refused(Refusal),
 }
 
-fn headed_refusal(r: Headed) -> u32
-    ensures { λ n. ⌜ n ≡ headedNo r ⌝ }
+fn headed_refusal(h: Headed) -> Refusal
+    ensures { λ r. ⌜ r ≡ headedRefusal h ⌝ }
 {
-    match r {
-        Headed::Got(_, _) => 0,
-        Headed::Refused(n) => n,
+    match h {
+        Headed::Got(_, y) => Refusal { number: 0, at: y },
+        Headed::Refused(r) => r,
     }
 }
 
-fn carried_refusal(r: Carried) -> u32
-    ensures { λ n. ⌜ n ≡ carriedNo r ⌝ }
+fn carried_refusal(c: Carried) -> Refusal
+    ensures { λ r. ⌜ r ≡ carriedRefusal c ⌝ }
 {
-    match r {
-        Carried::Got(_, _) => 0,
-        Carried::Refused(n) => n,
+    match c {
+        Carried::Got(_, y) => Refusal { number: 0, at: y },
+        Carried::Refused(r) => r,
     }
 }
 

@@ -1,10 +1,12 @@
 // Sub-blocks from the last one down.
 use bins::state::Interval;
+use bins::state::Refusal;
 use bins::state::Step;
+use bins::state::refusal_of;
 use bins::tags::CONTEXTS;
-use hevc_elements::head::Head;
-use hevc_elements::remainder::range_bits;
 use hevc_elements::shapes::context_bin;
+use hevc_head::head::Head;
+use hevc_remainder::remainder::range_bits;
 use hevc_residual::params::Params;
 use hevc_rules::coeffs::Carry;
 use hevc_rules::sizes::width_of;
@@ -22,7 +24,6 @@ use hevc_scans::significance::map4;
 use hevc_subblock::coeffs::Carried;
 use hevc_subblock::coeffs::coeffs;
 use hevc_subblock::places::Placed;
-use hevc_subblock::places::refusal;
 use hevc_subblock::places::significance;
 ghost use mathlib.Core.Path.{_≡_};
 ghost use mathlib.Core.Bool.{Bool};
@@ -39,7 +40,7 @@ ghost use Rattle.hevc_rules.specs.LevelsAgree.{Site};
 ghost use Rattle.hevc_residual.specs.Limits.{Statistics};
 ghost use Rattle.hevc_rules.specs.CoeffsAgree.{Carries};
 ghost use Rattle.hevc_rules.specs.SubsAgree.{flagOr, Last};
-ghost use Rattle.hevc_block.specs.SubsAgree.{placedNo, SaysSub, SaysSubs};
+ghost use Rattle.hevc_block.specs.SubsAgree.{placedRefusal, SaysSub, SaysSubs};
 
 // coded_sub_block_flag, coded strictly between first and last; elsewhere 1.
 fn coded_flag(
@@ -60,15 +61,17 @@ fn coded_flag(
     Step::Bin(1, x)
 }
 
-fn placed_refusal(r: Placed) -> u32
-    ensures { λ n. ⌜ n ≡ placedNo r ⌝ }
+fn placed_refusal(p: Placed) -> Refusal
+    ensures { λ r. ⌜ r ≡ placedRefusal p ⌝ }
 {
-    match r {
-        Placed::Got(_, _) => 0,
-        Placed::Refused(n) => n,
+    match p {
+        Placed::Got(_, y) => Refusal { number: 0, at: y },
+        Placed::Refused(r) => r,
     }
 }
 
+// One sub-block. What is lent is apart, since each function over a struct that held it would be walked by hand: source and table, contexts, scan and map, flags, levels, statistics.
+// Then what the block has settled (p, t, h), the last sub-block and the last place in it, this one's number and place among w, what is carried on.
 pub fn sub_block(
     list: bool,
     table: &[u32; 512],
@@ -106,7 +109,7 @@ pub fn sub_block(
         x,
     );
     let Step::Bin(flag, x1) = f else {
-        return Carried::Refused(refusal(f));
+        return Carried::Refused(refusal_of(f));
     };
     if flag == 0 {
         return Carried::Got(c, x1);

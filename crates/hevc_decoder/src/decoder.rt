@@ -4,6 +4,7 @@ use bins::state::Engine;
 use bins::tags::CONTEXTS;
 use cabac::engine::Bins;
 use cabac::engine::State;
+use cabac_bins::decode;
 use cabac_context::context;
 use cabac_context::context::Bit;
 use cabac_context::context::CtxModel;
@@ -34,21 +35,21 @@ impl<'a> Decoder<'a> {
     pub fn decode_bypass(self) -> Bins
         ensures { λ r. ⌜ binsSay r ≡ bypassBits (now (self .entry .payload)) (self .entry .state) 1 ⌝ }
     {
-        engine::decode_bypass(self.payload, self.state)
+        decode::decode_bypass(self.payload, self.state)
     }
 
     // Bypass bins, 0 to 32 of them.
     pub fn decode_bypass_bits(self, count: u32) -> Bins
         ensures { λ r. ⌜ binsSay r ≡ bypassBits (now (self .entry .payload)) (self .entry .state) count ⌝ }
     {
-        engine::decode_bypass_bits(self.payload, self.state, count)
+        decode::decode_bypass_bits(self.payload, self.state, count)
     }
 
     // Terminate: 1 ends the engine.
     pub fn decode_terminate(self) -> Bins
         ensures { λ r. ⌜ binsSay r ≡ terminate (now (self .entry .payload)) (self .entry .state) ⌝ }
     {
-        engine::decode_terminate(self.payload, self.state)
+        decode::decode_terminate(self.payload, self.state)
     }
 
     // The range becomes 256, as before escape data.

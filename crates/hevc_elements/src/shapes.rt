@@ -1,6 +1,4 @@
 // The shapes that syntax elements are made of: a bin with a context, a flag that may not be coded, a prefix of ones.
-use bin_steps::steps::decode_bin;
-use bin_steps::steps::decode_bypass;
 use bins::state::Interval;
 use bins::state::Step;
 use bins::tags::CONTEXTS;
@@ -28,7 +26,7 @@ pub fn context_bin(
     requires { ⌜ Reads list (now bytes) x (now contexts) × (number < contextCount) × (now table ≡ decisions) ⌝ }
     ensures { λ r. ⌜ ((w : Wanted → Bool) → SaysFlag r (now (contexts .exit)) (from list (now (bytes .entry)) (bin number w done) x (now (contexts .entry)))) ⌝ }
 {
-    decode_bin(list, table, &mut contexts[number], number as u32, bytes, x)
+    tree_shapes::context_bin(list, table, contexts, number, bytes, x)
 }
 
 // A flag where it is coded, else 0.
@@ -95,21 +93,5 @@ pub fn ones(list: bool, most: u32, bytes: &[u8], x: Interval) -> Step
     requires { ⌜ Readable list (now bytes) x × (most ≤ 31) ⌝ }
     ensures { λ r. ⌜ ((w : ℕ → Wanted → Bool) (contexts : List ℕ) → Says r contexts (from list (now (bytes .entry)) (onesS most 0 w) x contexts)) ⌝ }
 {
-    let mut y = x;
-    let mut g: u32 = 0;
-    let count = loop {
-        if g == most {
-            break g;
-        }
-        let s = decode_bypass(list, bytes, y);
-        let Step::Bin(b, next) = s else {
-            return s;
-        };
-        y = next;
-        if b == 0 {
-            break g;
-        }
-        g += 1;
-    };
-    Step::Bin(count, y)
+    tree_shapes::ones(list, most, bytes, x)
 }

@@ -1,42 +1,13 @@
-// What is told of a block beside its levels: the greatest magnitude and the row extent. In specs, what both extents say of every block that is read.
+// What is told of a block beside its levels: the row extent, and the greatest magnitude of the rows up to it. In specs, what both extents say of every block that is read.
 use hevc_residual::params::Params;
+use tree_shapes::levels::greatest;
 ghost use mathlib.Core.Path.{_≡_};
-ghost use Prim.Native.Nat.{_^_, _≤_, max};
+ghost use Prim.Native.Nat.{_^_, _≤_};
 ghost use lib.ListN.{length};
-ghost use lib.IntN.{natAbs};
 ghost use Rattle.hevc_residual.specs.Wanted.{area};
 ghost use Rattle.hevc_residual.specs.Limits.{Accepted};
 ghost use Rattle.hevc_residual.specs.Residual.{greatestOf};
 ghost use Rattle.hevc_residual.specs.Extent.{rowExtentOf};
-
-// The distance from 0; it fits even of the least i32.
-pub fn magnitude(v: i32) -> u32
-    ensures { λ r. ⌜ r ≡ natAbs v ⌝ }
-{
-    if v < 0 {
-        return (0 - v as i64) as u32;
-    }
-    v as u32
-}
-
-fn larger(a: u32, b: u32) -> u32
-    ensures { λ r. ⌜ r ≡ max a b ⌝ }
-{
-    if a < b { b } else { a }
-}
-
-// The greatest magnitude of the levels.
-pub fn greatest(block: &[i32]) -> u32
-    ensures { λ r. ⌜ r ≡ greatestOf (now (block .entry)) ⌝ }
-{
-    let mut most: u32 = 0;
-    let mut i: usize = 0;
-    while i < block.len() {
-        most = larger(most, magnitude(block[i]));
-        i += 1;
-    }
-    most
-}
 
 // n of an accepted size.
 fn side_of(log2: u32) -> usize

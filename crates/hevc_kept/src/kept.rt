@@ -4,25 +4,19 @@ use hevc_counts::counts::count_in;
 use hevc_counts::counts::form_refusal;
 use hevc_counts::counts::sub_of;
 use hevc_counts::counts::whole_of;
-use hevc_elements::remainder::in_range;
-use hevc_extents::magnitude;
+use hevc_remainder::remainder::in_range;
 use hevc_rules::sizes::area_of;
 use hevc_summary::kept::Changed;
 use hevc_summary::kept::Form;
 use hevc_summary::kept::Whole;
+use tree_shapes::levels::is_negative;
+use tree_shapes::levels::magnitude;
 ghost use mathlib.Core.Path.{_≡_};
 ghost use Prim.Native.Nat.{_≤_};
 ghost use lib.ListN.{length};
-ghost use Rattle.hevc_residual.specs.Wanted.{negative};
 ghost use Rattle.hevc_summary.specs.Summary.{Keeps};
 ghost use Rattle.hevc_summary.specs.Entries.{levelRefusal, zeros, copied, recount, clear, copyRefusal, copyIn};
 ghost use Rattle.hevc_summary.specs.Agree.{keptOf, afterOf, SetSays};
-
-fn is_negative(v: i32) -> bool
-    ensures { λ r. ⌜ r ≡ negative v ⌝ }
-{
-    v < 0
-}
 
 // 8
 fn level_refusal(f: Form, v: i32) -> u32

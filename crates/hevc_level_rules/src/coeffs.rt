@@ -1,5 +1,5 @@
 // What settles the levels of a sub-block: context numbers, alignment, hiding, the statistic that is used.
-use hevc_elements::head::Head;
+use hevc_head::head::Head;
 use hevc_residual::params::Params;
 use hevc_residual::params::Rdpcm;
 use hevc_rules::places::Places;

@@ -1,6 +1,6 @@
 // What goes from a level of a sub-block to the next, and where a level goes.
-use hevc_elements::remainder::rice_next;
-use hevc_elements::remainder::stat_next;
+use hevc_remainder::remainder::rice_next;
+use hevc_remainder::remainder::stat_next;
 use hevc_residual::params::Params;
 use hevc_rules::levels::Base;
 use hevc_rules::levels::Cell;

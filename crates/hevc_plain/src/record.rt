@@ -1,5 +1,5 @@
 // A plain record of parameters, from what is left to say of a block.
-use crate::entries::plain_refusal;
+use crate::checks::plain_refusal;
 use hevc_residual::params::Params;
 ghost use mathlib.Core.Path.{_≡_};
 ghost use Rattle.hevc_plain.specs.Plain.{limitsRefusal, plainRecord};

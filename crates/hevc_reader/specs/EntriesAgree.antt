@@ -52,7 +52,7 @@ payloadChecks l e contexts stats p block =
 
 abbrev pub blockedNo : Blocked → ℕ
 blockedNo (blocked.Got f y) = 0
-blockedNo (blocked.Refused n) = n
+blockedNo (blocked.Refused n) = n .number
 
 -- ---- a block read into the front of a lent one; a refused reading leaves contexts and statistics, and zero places
 abbrev pub SaysInto : Params → Bool → List ℕ → Interval → List ℕ → List ℕ → List ℤ → Blocked → List ℕ → List ℕ → List ℤ → Type 0

@@ -9,12 +9,13 @@ use lib.IntN.{ℤ, pos}
 use lib.ListN.{length, getD, set, take, drop, replicate, length-replicate, drop-of-length-le}
 use lib.Seq.{drop-cons, set-append-seam, take-append-seam, drop-append-seam}
 use Rattle.bins.specs.declared.state.Engine.{Engine}
+use Rattle.bins.specs.declared.state.Refusal.{Refusal}
 use Rattle.bins.specs.declared.state.Interval.{Interval}
 use Rattle.bins.specs.Bits.{ends, pastMost}
 use Rattle.bins.specs.Engine.{place}
 use Rattle.bins.specs.Interval.{opened, settled, placeOf, Goes}
 use Rattle.bins.specs.Syn.{Out, run, byList}
-use Rattle.bins.specs.Sources.{Cursor}
+use Rattle.bins.specs.Sources.{Cursor, refusedAt}
 use Rattle.bins.specs.Laws.{mapOut}
 use Rattle.bins.specs.CodeLaws.{Packed}
 use Rattle.bins.specs.EngineRuns.{runs-goes}
@@ -93,13 +94,13 @@ module _ (p : Params) (list : Bool) (l : List ℕ) (x : Interval) (cs stats : Li
       subst (λ (z : Blocked). SaysInto p list l x cs stats block z cs′ stats′ block′) (sym q)
       (levels, h, e, subst (λ (z : Blocked). SaysBlock p list l x cs stats z cs′ levels stats′) q s)
 
-  pub into-refused : (n : ℕ) → r ≡ blocked.Refused n → (block′ : List ℤ) → block′ ≡ cleared p block → SaysInto p list l x cs stats block r cs stats block′
+  pub into-refused : (n : Refusal) → r ≡ blocked.Refused n → (block′ : List ℤ) → block′ ≡ cleared p block → SaysInto p list l x cs stats block r cs stats block′
   into-refused n q block′ e =
       subst (λ (z : Blocked). SaysInto p list l x cs stats block z cs stats block′) (sym q)
       (subst (λ (z : Blocked). SaysBlock p list l x cs stats z cs′ levels stats′) q s, refl, refl, e)
 
-pub blocked-number : (r : Blocked) (m n : ℕ) → r ≡ blocked.Refused m → n ≡ blockedNo r → r ≡ blocked.Refused n
-blocked-number r m n q e = q ∙ ap blocked.Refused (sym (e ∙ ap blockedNo q))
+pub blocked-number : (r : Blocked) (m : Refusal) (n : ℕ) → r ≡ blocked.Refused m → n ≡ blockedNo r → r ≡ blocked.Refused (refusedAt n (m .at))
+blocked-number r m n q e = q ∙ ap (λ k. blocked.Refused (refusedAt k (m .at))) (sym (e ∙ ap blockedNo q))
 
 -- ---- 6
 not-ended : (e : Engine) (b : Bool) → e .ended ≡ b → 0 ≡ endedRefusal e → e .ended ≡ false
@@ -201,7 +202,7 @@ module _ (l : List ℕ) (e : Engine) (contexts stats : List ℕ) (p : Params) (b
 
     -- r is what the reading into the block answered
     module _ (r : Blocked) (contexts′ stats′ : List ℕ) (block′ : List ℤ) (s : SaysInto p false l (opened e) contexts stats block r contexts′ stats′ block′) where
-      pub payload-refused : (n : ℕ) → r ≡ blocked.Refused n → payloadRead (read.Refused n) contexts′ stats′ block′ ≡ readPayload l e contexts stats p block
+      pub payload-refused : (n : ℕ) {at : Interval} → r ≡ blocked.Refused (refusedAt n at) → payloadRead (read.Refused n) contexts′ stats′ block′ ≡ readPayload l e contexts stats p block
       unfolding readByEngine
       payload-refused n u =
           let w = subst (λ (z : Blocked). SaysInto p false l (opened e) contexts stats block z contexts′ stats′ block′) u s in
@@ -255,7 +256,7 @@ module _ (l : List ℕ) (stats : List ℕ) (p : Params) (block : List ℤ) where
         abbrev Into : Blocked → Type 0
         Into z = SaysInto p true l x contexts stats block z contexts′ stats′ block′
 
-        pub bins-refused : (n : ℕ) → r ≡ blocked.Refused n → binsRead (readlist.Refused n) stats block′ ≡ readBins l stats p block
+        pub bins-refused : (n : ℕ) {at : Interval} → r ≡ blocked.Refused (refusedAt n at) → binsRead (readlist.Refused n) stats block′ ≡ readBins l stats p block
         unfolding readFromList
         bins-refused n u =
             let w = subst (λ (z : Blocked). Into z) u s in

@@ -1,6 +1,6 @@
 // The two entry points: a block from a payload, and a block from a bin list.
 // Each takes anything: what document 01 does not accept is answered by its number.
-use bins::places::BitPlace;
+use bins::places::SourcePlace;
 use bins::state::Engine;
 use bins::state::Interval;
 use bins::tags::CONTEXTS;
@@ -43,7 +43,7 @@ pub enum ReadList {
 }
 
 // 1, 2, 4, 3, 6
-fn payload_checks(
+pub fn payload_checks(
     bytes: &[u8],
     e: Engine,
     contexts: &[u8],
@@ -84,7 +84,7 @@ fn blocked_refusal(r: Blocked) -> u32
 {
     match r {
         Blocked::Got(_, _) => 0,
-        Blocked::Refused(n) => n,
+        Blocked::Refused(r) => r.number,
     }
 }
 
@@ -101,7 +101,7 @@ fn clear(block: &mut [i32], n: usize)
 }
 
 // A block into the first places, by a table that is lent. Contexts and statistics are worked on where they lie; a copy is put back where the block is refused.
-fn read_into(
+pub fn read_into(
     list: bool,
     table: &[u32; 512],
     contexts: &mut [u8; CONTEXTS],
@@ -181,7 +181,7 @@ pub fn read_bins(bytes: &[u8], stats: &mut [u8; 4], p: Params, block: &mut [i32]
     let front = Interval {
         range: 256,
         offset: 0,
-        position: BitPlace(0),
+        position: SourcePlace(0),
     };
     let table = decision_table();
     let r = read_into(true, &table, &mut contexts, &mut st, bytes, p, block, front);

@@ -10,8 +10,8 @@ use Rattle.hevc_residual.specs.Wanted.{Wanted, S, innerOf, spotIn, lastOf}
 use Rattle.hevc_residual.specs.Head.{rdpcmFlag}
 use Rattle.hevc_residual.specs.Scan.{Spot}
 use Rattle.hevc_residual.specs.SubBlock.{Acc, signHidden, coeffsS}
-use Rattle.hevc_elements.specs.declared.head.Head.{Head}
-use Rattle.hevc_elements.specs.HeadAgree.{headOf}
+use Rattle.hevc_head.specs.declared.head.Head.{Head}
+use Rattle.hevc_head.specs.HeadAgree.{headOf}
 use Rattle.hevc_rules.specs.declared.places.Places.{Places}
 use Rattle.hevc_rules.specs.declared.coeffs.Carry.{Carry}
 use Rattle.hevc_rules.specs.Packing.{unpack}

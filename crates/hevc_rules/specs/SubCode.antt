@@ -12,7 +12,7 @@ use Rattle.hevc_residual.specs.declared.params.Params.{Params}
 use Rattle.hevc_residual.specs.Scan.{spot}
 use Rattle.hevc_residual.specs.Wanted.{width, outerOf}
 use Rattle.hevc_residual.specs.Head.{skipOrBypass}
-use Rattle.hevc_elements.specs.declared.head.Head.{Head}
+use Rattle.hevc_head.specs.declared.head.Head.{Head}
 use Rattle.hevc_rules.specs.declared.places.Places.{Places}
 use Rattle.hevc_rules.specs.PlacesAgree.{sigNumber}
 use Rattle.hevc_rules.specs.LevelsAgree.{Site}

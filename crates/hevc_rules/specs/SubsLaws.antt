@@ -21,8 +21,8 @@ use Rattle.hevc_residual.specs.SubBlock.{Acc, placesS}
 use Rattle.hevc_residual.specs.Residual.{isCoded, marked, sigAt, filledS, subBlockS}
 use Rattle.hevc_scans.specs.ScanLaws.{inner-inside, inner-before-last, outer-small, cell-small}
 use Rattle.hevc_scans.specs.SigLaws.{sig-small}
-use Rattle.hevc_elements.specs.declared.head.Head.{Head}
-use Rattle.hevc_elements.specs.HeadAgree.{headOf}
+use Rattle.hevc_head.specs.declared.head.Head.{Head}
+use Rattle.hevc_head.specs.HeadAgree.{headOf}
 use Rattle.hevc_rules.specs.declared.coeffs.Carry.{Carry}
 use Rattle.hevc_rules.specs.PlacesAgree.{sigNumber}
 use Rattle.hevc_rules.specs.LevelsAgree.{Site}

@@ -11,6 +11,7 @@ use mir.Val.{SFits, toZ, ofZ}
 use mir.Facts.{toZ-ofZ}
 use borrow.Author.Tests.{eq-eqb, ne-eqb}
 use Rattle.bins.specs.declared.state.Interval.{Interval}
+use Rattle.bins.specs.declared.state.Refusal.{Refusal}
 use Rattle.bins.specs.declared.state.Step.{Step}
 use Rattle.bins.specs.declared.state.Step.the-variants as step
 use Rattle.bins.specs.Syn.{done, bin, _>>=_, Out}
@@ -23,7 +24,7 @@ use Rattle.hevc_elements.specs.Agree.{Reads, from, Says, SaysFlag, says-ok}
 use Rattle.hevc_elements.specs.ShapeLaws.{run-done}
 use Rattle.trees.specs.Every.{Free, Each, each-done, each-bin, each-bind}
 use Rattle.trees.specs.Reached.{each-run}
-use Rattle.hevc_elements.specs.HeadLaws.{Behind, Answered, behind-number, behind-flag, prefix-few}
+use Rattle.hevc_head.specs.HeadLaws.{Behind, Answered, behind-number, behind-flag, prefix-few}
 use Rattle.hevc_cross.specs.Scale.{atValue, atSign, magnitude, valueS, signS, scaleS}
 use Rattle.hevc_rules.specs.SignLaws.{minus-fits, minus-is, plus-is}
 use Rattle.hevc_cross.specs.ScaleLaws.{rising}
@@ -37,7 +38,7 @@ module _ (s : Bool) (l : List ℕ) (x : Interval) (cs : List ℕ) (c : ℕ) wher
   abbrev pub Left : ℕ → Interval → List ℕ → Type 0
   Left v y ds = Behind s l (scaleS nothing c) x cs (signS nothing c v) y ds
 
-  abbrev pub NoScale : ℕ → Type 0
+  abbrev pub NoScale : Refusal → Type 0
   NoScale n = RefusedBy n (from s l (scaleS nothing c) x cs)
 
   begun : Reads s l x cs → Behind s l (scaleS nothing c) x cs (valueS nothing c >>= signS nothing c) x cs

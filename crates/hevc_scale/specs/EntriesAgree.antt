@@ -36,4 +36,4 @@ payloadChecks l e contexts c =
 
 abbrev pub scaledNo : Scaled → ℕ
 scaledNo (scaled.Got z y) = 0
-scaledNo (scaled.Refused n) = n
+scaledNo (scaled.Refused n) = n .number

@@ -12,12 +12,13 @@ use lib.ListN.{length, getD, drop, drop-of-length-le}
 use lib.Seq.{drop-cons}
 use borrow.Author.Tests.{ltb-false, lt-ltb, le-ltb}
 use Rattle.bins.specs.declared.state.Engine.{Engine}
+use Rattle.bins.specs.declared.state.Refusal.{Refusal}
 use Rattle.bins.specs.declared.state.Interval.{Interval}
 use Rattle.bins.specs.Bits.{ends, pastMost}
 use Rattle.bins.specs.Engine.{place}
 use Rattle.bins.specs.Interval.{placeOf, opened, settled, Goes}
 use Rattle.bins.specs.Syn.{Out, Reading, run, byEngine, byList}
-use Rattle.bins.specs.Sources.{Cursor, cursor, byCode}
+use Rattle.bins.specs.Sources.{Cursor, cursor, byCode, refusedAt}
 use Rattle.bins.specs.Laws.{RefusedBy, mapOut}
 use Rattle.bins.specs.CodeLaws.{Packed}
 use Rattle.bins.specs.EngineRuns.{runs-goes}
@@ -57,8 +58,8 @@ component-passed c q = go (ltb 1 c) refl q
     go true e q = absurd (omega arith)
     go false e q = ltb-false 1 c e
 
-pub scaled-number : (r : Scaled) (m n : ℕ) → r ≡ scaled.Refused m → n ≡ scaledNo r → r ≡ scaled.Refused n
-scaled-number r m n q e = q ∙ ap scaled.Refused (sym (e ∙ ap scaledNo q))
+pub scaled-number : (r : Scaled) (m : Refusal) (n : ℕ) → r ≡ scaled.Refused m → n ≡ scaledNo r → r ≡ scaled.Refused (refusedAt n (m .at))
+scaled-number r m n q e = q ∙ ap (λ k. scaled.Refused (refusedAt k (m .at))) (sym (e ∙ ap scaledNo q))
 
 -- ---- 6
 not-ended : (e : Engine) (b : Bool) → e .ended ≡ b → 0 ≡ endedRefusal e → e .ended ≡ false
@@ -143,7 +144,7 @@ module _ (l : List ℕ) (e : Engine) (contexts : List ℕ) (c : ℕ) where
 
     -- r is what the reading answered
     module _ (r : Scaled) (contexts′ : List ℕ) (s : SaysScale r contexts′ (from false l (scaleS nothing c) (opened e) contexts)) where
-      pub payload-refused : (n : ℕ) → r ≡ scaled.Refused n → payloadRead (read.Refused n) contexts ≡ readPayload l e contexts c
+      pub payload-refused : (n : ℕ) {at : Interval} → r ≡ scaled.Refused (refusedAt n at) → payloadRead (read.Refused n) contexts ≡ readPayload l e contexts c
       unfolding readByEngine
       payload-refused n u =
           let w = subst (λ (z : Scaled). SaysScale z contexts′ (from false l (scaleS nothing c) (opened e) contexts)) u s in
@@ -175,7 +176,7 @@ module _ (l : List ℕ) (c : ℕ) where
         ∙ ap readFromList (scale-any byList c (λ z. z) nothing l ∙ ap (λ k. run byList (scaleS nothing c) (drop k l)) (sym front) ∙ run-listed l (scaleS nothing c) x contexts)
 
     module _ (r : Scaled) (contexts′ : List ℕ) (s : SaysScale r contexts′ (from true l (scaleS nothing c) x contexts)) where
-      pub bins-refused : (n : ℕ) → r ≡ scaled.Refused n → binsRead (readlist.Refused n) ≡ readBins l c
+      pub bins-refused : (n : ℕ) {at : Interval} → r ≡ scaled.Refused (refusedAt n at) → binsRead (readlist.Refused n) ≡ readBins l c
       unfolding readFromList
       bins-refused n u =
           let w = subst (λ (z : Scaled). SaysScale z contexts′ (from true l (scaleS nothing c) x contexts)) u s in

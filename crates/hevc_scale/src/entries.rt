@@ -1,10 +1,9 @@
 // The entry points: a scale from a payload, from a bin list, and as bins.
 // Each takes anything: what is not accepted is answered by its number.
 use crate::syntax::Scaled;
-use crate::write::is_negative;
 use crate::write::put_scale;
 use crate::write::value;
-use bins::places::BitPlace;
+use bins::places::SourcePlace;
 use bins::state::Engine;
 use bins::state::Interval;
 use bins::tags::CONTEXTS;
@@ -16,6 +15,7 @@ use hevc_rules::checks::above_refusal;
 use hevc_writer::entries::Written;
 use pen::room::Pen;
 use tables::decision_table;
+use tree_shapes::levels::is_negative;
 ghost use mathlib.Core.Path.{_≡_};
 ghost use Rattle.hevc_cross.specs.Entries.{componentRefusal, readPayload, readBins, writeBins};
 ghost use Rattle.hevc_scale.specs.EntriesAgree.{payloadRead, binsRead, binsWritten, payloadChecks, scaledNo};
@@ -74,7 +74,7 @@ fn scaled_refusal(r: Scaled) -> u32
 {
     match r {
         Scaled::Got(_, _) => 0,
-        Scaled::Refused(n) => n,
+        Scaled::Refused(r) => r.number,
     }
 }
 
@@ -110,7 +110,7 @@ pub fn read_scale_bins(bytes: &[u8], component: u32) -> ReadList
     let front = Interval {
         range: 256,
         offset: 0,
-        position: BitPlace(0),
+        position: SourcePlace(0),
     };
     let r = crate::syntax::read_scale(
         true,

@@ -2,9 +2,10 @@
 use crate::layout::SIGN;
 use crate::layout::VALUE;
 use bins::state::Interval;
+use bins::state::Refusal;
 use bins::state::Step;
+use bins::state::refusal_of;
 use bins::tags::CONTEXTS;
-use hevc_elements::head::refusal;
 use hevc_elements::shapes::context_bin;
 use hevc_elements::shapes::prefix;
 ghost use mathlib.Core.Path.{_≡_};
@@ -19,7 +20,7 @@ ghost use Rattle.hevc_scale.specs.Agree.{SaysScale, nothing};
 // A scale with the interval behind it, or the number of the refusal.
 pub enum Scaled {
     Got(i32, Interval),
-    Refused(u32),
+    Refused(Refusal),
 }
 
 // The magnitude of a value that is not 0.
@@ -55,14 +56,14 @@ pub fn read_scale(
 {
     let s = prefix(list, table, contexts, VALUE + 4 * component, 0, 4, bytes, x);
     let Step::Bin(v, y) = s else {
-        return Scaled::Refused(refusal(s));
+        return Scaled::Refused(refusal_of(s));
     };
     if v == 0 {
         return Scaled::Got(0, y);
     }
     let t = context_bin(list, table, contexts, SIGN + component, bytes, y);
     let Step::Bin(b, z) = t else {
-        return Scaled::Refused(refusal(t));
+        return Scaled::Refused(refusal_of(t));
     };
     Scaled::Got(signed_of(v, b), z)
 }

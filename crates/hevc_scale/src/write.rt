@@ -1,10 +1,10 @@
 // The scale as bins.
 use crate::layout::SIGN;
 use crate::layout::VALUE;
-use hevc_extents::magnitude;
 use pen::room::Pen;
 use pen::room::put_bin;
 use pen::shapes::put_prefix;
+use tree_shapes::levels::magnitude;
 ghost use mathlib.Core.Path.{_≡_};
 ghost use Prim.Native.Nat.{_≤_};
 ghost use lib.IntN.{ℤ, natAbs};
@@ -40,12 +40,6 @@ pub fn value(scale: i32) -> u32
     ensures { λ r. ⌜ r ≡ valueOf (natAbs scale) ⌝ }
 {
     value_of(magnitude(scale))
-}
-
-pub fn is_negative(scale: i32) -> bool
-    ensures { λ r. ⌜ r ≡ negative scale ⌝ }
-{
-    scale < 0
 }
 
 // The scale of value v and this sign.

@@ -9,12 +9,13 @@ use lib.ListN.{length, getD, set}
 use lib.Dec.{ltb, eqb}
 use lib.Count.{ones}
 use Rattle.bins.specs.declared.state.Interval.{Interval}
+use Rattle.bins.specs.declared.state.Refusal.{Refusal}
 use Rattle.bins.specs.declared.state.Step.{Step}
 use Rattle.bins.specs.declared.state.Step.the-variants as step
 use Rattle.bins.specs.Engine.{bitNo}
 use Rattle.bins.specs.Syn.{done, align, _>>=_, took, refused, Out}
 use Rattle.bins.specs.Readers.{flagIf}
-use Rattle.bins.specs.Sources.{Cursor, cursor, withContexts, byCode, alignFrom, bitsFrom, stepOf, stepOfBits, Readable}
+use Rattle.bins.specs.Sources.{Cursor, cursor, withContexts, byCode, alignFrom, bitsFrom, stepOf, stepOfBits, Readable, stopped, refusalOf}
 use Rattle.bins.specs.Laws.{RefusedBy, run-align, run-align-no, After}
 use Rattle.bins.specs.CodeLaws.{from-align}
 use Rattle.bins.specs.StepLaws.{step-took, step-refused}
@@ -24,11 +25,11 @@ use Rattle.hevc_residual.specs.Scan.{Spot}
 use Rattle.hevc_residual.specs.Wanted.{Wanted, S, innerOf, spotIn}
 use Rattle.hevc_residual.specs.SubBlock.{Acc, Filled, Greater1, greater1S, countOf, firstGreater1, escapeDataPresent, signsNo, dues, levelsS, sbType}
 use Rattle.hevc_residual.specs.Limits.{Statistics}
-use Rattle.hevc_elements.specs.declared.head.Head.{Head}
+use Rattle.hevc_head.specs.declared.head.Head.{Head}
 use Rattle.hevc_elements.specs.Agree.{Reads, from, SaysFlag}
 use Rattle.hevc_elements.specs.ShapeLaws.{run-done}
-use Rattle.hevc_elements.specs.HeadAgree.{headOf, numberOf}
-use Rattle.hevc_elements.specs.HeadLaws.{Behind, behind-ok, behind-no, behind-flag, behind-bits}
+use Rattle.hevc_head.specs.HeadAgree.{headOf}
+use Rattle.hevc_head.specs.HeadLaws.{Behind, behind-ok, behind-no, behind-flag, behind-bits}
 use Rattle.hevc_rules.specs.declared.places.Places.{Places}
 use Rattle.hevc_subblock.specs.declared.greater.Greater.{Greater}
 use Rattle.hevc_subblock.specs.declared.greater.Greaters.{Greaters}
@@ -39,13 +40,12 @@ use Rattle.hevc_subblock.specs.declared.levels.Leveled.the-variants as l
 use Rattle.hevc_rules.specs.declared.coeffs.Carry.{Carry}
 use Rattle.hevc_rules.specs.Packing.{Packs, unpack, unmask}
 use Rattle.hevc_rules.specs.PackingLaws.{unmask-count}
-use Rattle.hevc_subblock.specs.PlacesAgree.{refusalOf}
 use Rattle.hevc_rules.specs.GreaterAgree.{none}
 use Rattle.hevc_subblock.specs.GreaterAgree.{SaysGreater}
 use Rattle.hevc_rules.specs.LevelsAgree.{Fine, goingS}
 use Rattle.hevc_subblock.specs.LevelsAgree.{SaysAll}
 use Rattle.hevc_rules.specs.CoeffsAgree.{Carries, accOf, coeffsOf, hides}
-use Rattle.hevc_subblock.specs.CoeffsAgree.{alignedIf, greatersNumber, leveledNumber}
+use Rattle.hevc_subblock.specs.CoeffsAgree.{alignedIf, greatersRefusal, leveledRefusal}
 use Rattle.hevc_rules.specs.CoeffsLaws.{mask-any, levelsOf, allOf, levelsLeft, signsLeft, alignLeft, flagLeft, coeffs-parts, places-all, places-many}
 
 pub eight-few : (n m : ℕ) → n ≡ min 8 m → n ≤ 8
@@ -55,34 +55,30 @@ pub signs-few : (n hid : ℕ) → n ≤ 16 → n - hid ≤ 32
 signs-few n hid h = omega arith
 
 module _ (due s : Bool) (l : List ℕ) (x : Interval) where
-  pub aligned-due : due ≡ true → (r : Step) → r ≡ stepOf (alignFrom s l x) → r ≡ alignedIf due s l x
+  pub aligned-due : due ≡ true → (r : Step) → r ≡ stepOf x (alignFrom s l x) → r ≡ alignedIf due s l x
   aligned-due q r e = e ∙ ap (λ i. alignedIf i s l x) (sym q)
 
   pub aligned-not : due ≡ false → step.Bin 0 x ≡ alignedIf due s l x
   aligned-not q = ap (λ i. alignedIf i s l x) (sym q)
 
 -- ---- what an answer leads to
-pub record Answered (r : Step) (T : ℕ → Interval → Type 0) (N : ℕ → Type 0) : Type 0 where
+pub record Answered (r : Step) (T : ℕ → Interval → Type 0) (N : Refusal → Type 0) : Type 0 where
   pub ok : (v : ℕ) (z : Interval) → r ≡ step.Bin v z → T v z
-  pub no : (m n : ℕ) → r ≡ step.Refused m → n ≡ refusalOf r → N n
+  pub no : (m n : Refusal) → r ≡ stopped m → n ≡ refusalOf r → N n
 
-pub record AnsweredBins (r : Greaters) (T : Greater → Interval → Type 0) (N : ℕ → Type 0) : Type 0 where
+pub record AnsweredBins (r : Greaters) (T : Greater → Interval → Type 0) (N : Refusal → Type 0) : Type 0 where
   pub ok : (g : Greater) (z : Interval) → r ≡ greaters.Got g z → T g z
-  pub no : (m n : ℕ) → r ≡ greaters.Refused m → n ≡ greatersNumber r → N n
+  pub no : (m n : Refusal) → r ≡ greaters.Refused m → n ≡ greatersRefusal r → N n
 
-pub record AnsweredLevels (r : Leveled) (T : Going → Interval → Type 0) (N : ℕ → Type 0) : Type 0 where
+pub record AnsweredLevels (r : Leveled) (T : Going → Interval → Type 0) (N : Refusal → Type 0) : Type 0 where
   pub ok : (g : Going) (z : Interval) → r ≡ leveled.Got g z → T g z
-  pub no : (m n : ℕ) → r ≡ leveled.Refused m → n ≡ leveledNumber r → N n
-
-same-number : (r : Step) → refusalOf r ≡ numberOf r
-same-number (step.Bin v z) = refl
-same-number (step.Refused n) = refl
+  pub no : (m n : Refusal) → r ≡ leveled.Refused m → n ≡ leveledRefusal r → N n
 
 bins-ok : (n : ℕ) (r : Greaters) (g : Greater) (z : Interval) (es : List ℕ) (o : Out Cursor Greater1) → SaysGreater n r es o → r ≡ greaters.Got g z
     → (g .mask < 2 ^ n) × (g .carry ≤ 3) × (o ≡ Out.ok (record { bins = unmask (g .mask) n; greater1Ctx = g .carry }) (cursor z es))
 bins-ok n r g z es o h q = subst (λ (i : Greaters). SaysGreater n i es o) q h
 
-bins-no : (n : ℕ) (r : Greaters) (m : ℕ) (es : List ℕ) (o : Out Cursor Greater1) → SaysGreater n r es o → r ≡ greaters.Refused m → RefusedBy m o
+bins-no : (n : ℕ) (r : Greaters) (m : Refusal) (es : List ℕ) (o : Out Cursor Greater1) → SaysGreater n r es o → r ≡ greaters.Refused m → RefusedBy m o
 bins-no n r m es o h q = subst (λ (i : Greaters). SaysGreater n i es o) q h
 
 levels-ok : (p : Params) (at : Spot) (list : Bool) (l : List ℕ) (g2 : Bool) (signs : ℕ) (g : Going) (y : Interval) (levels : List ℤ) (r : Leveled) (after : List ℤ)
@@ -90,7 +86,7 @@ levels-ok : (p : Params) (at : Spot) (list : Bool) (l : List ℕ) (g2 : Bool) (s
 levels-ok p at list l g2 signs g y levels r after e z h q = subst (λ (i : Leveled). SaysAll p at list l g2 signs g y levels i after) q h
 
 levels-no : (p : Params) (at : Spot) (list : Bool) (l : List ℕ) (g2 : Bool) (signs : ℕ) (g : Going) (y : Interval) (levels : List ℤ) (r : Leveled) (after : List ℤ)
-    (m : ℕ) → SaysAll p at list l g2 signs g y levels r after → r ≡ leveled.Refused m → SaysAll p at list l g2 signs g y levels (leveled.Refused m) after
+    (m : Refusal) → SaysAll p at list l g2 signs g y levels r after → r ≡ leveled.Refused m → SaysAll p at list l g2 signs g y levels (leveled.Refused m) after
 levels-no p at list l g2 signs g y levels r after m h q = subst (λ (i : Leveled). SaysAll p at list l g2 signs g y levels i after) q h
 
 -- ---- alignment, where it is due
@@ -111,17 +107,17 @@ module _ {A : Type 0} (s : Bool) (l : List ℕ) (whole : S A) (x : Interval) (cs
   behind-align true h r e =
       record {
         ok = λ v z q.
-            let d = step-took (alignFrom s l y) r v z e q in
+            let d = step-took y (alignFrom s l y) r v z e q in
             let g : Readable s l z = subst (λ u. After (Readable s l) u) (d .2) (from-align s l y (h .reads .0)) in
             record {
               reads = (g, h .reads .1);
               left = h .left ∙ run-align (byCode s l) t (cursor y ds) (d .0) (cursor z ds) (on-align (d .0) z (d .2));
             };
         no = λ m n q u.
-            let d = step-refused (alignFrom s l y) r m e q in
+            let d = step-refused y (alignFrom s l y) r m e q in
             let i : m ≡ n = sym (u ∙ ap refusalOf q) in
             subst (λ k. RefusedBy k (from s l whole x cs)) i
-            (cursor y ds, h .left ∙ run-align-no (byCode s l) t (cursor y ds) m (on-align-no m d));
+            (ds, h .left ∙ run-align-no (byCode s l) t (cursor y ds) (m .number) (on-align-no (m .number) (d .0)) ∙ ap (λ (z : Interval). Out.no (m .number) (cursor z ds)) (d .1));
       }
   behind-align false h r e =
       record {
@@ -142,7 +138,7 @@ module _ (p : Params) (h : Head) (at : Spot) (list : Bool) (l : List ℕ) (ctxSe
   abbrev pub Left : ((ℕ → Wanted → ℤ) → List Bool → S Acc) → Interval → List ℕ → Type 0
   Left t y ds = (lv : ℕ → Wanted → ℤ) (coded : List Bool) → Behind list l (coeffsOf p h at lv ctxSet s (accOf c coded levels stats)) x cs (t lv coded) y ds
 
-  abbrev pub NoLevels : ℕ → Type 0
+  abbrev pub NoLevels : Refusal → Type 0
   NoLevels n = (lv : ℕ → Wanted → ℤ) (coded : List Bool) → RefusedBy n (from list l (coeffsOf p h at lv ctxSet s (accOf c coded levels stats)) x cs)
 
   -- the bins of a mask
@@ -207,7 +203,7 @@ module _ (p : Params) (h : Head) (at : Spot) (list : Bool) (l : List ℕ) (ctxSe
                       behind-ok list l (whole lv coded) x cs (binsOf lv) (behindBins lv coded) x cs (begun d lv coded) (marked (g .mask) (g .carry)) z es (f lv .2),
                 );
             no = λ m n q u lv coded.
-                let i : m ≡ n = sym (u ∙ ap greatersNumber q) in
+                let i : m ≡ n = sym (u ∙ ap greatersRefusal q) in
                 subst (λ k. RefusedBy k (from list l (whole lv coded) x cs)) i
                 (behind-no list l (whole lv coded) x cs (binsOf lv) (behindBins lv coded) x cs (begun d lv coded) m
                 (bins-no (min 8 (s .count)) r m es (from list l (binsOf lv) x cs) (bins-say lv) q));
@@ -228,7 +224,7 @@ module _ (p : Params) (h : Head) (at : Spot) (list : Bool) (l : List ℕ) (ctxSe
           (atGreater2 + ctxSet + inChroma (p .luma) 4) k (w lv) (λ g2. toAlign mask carry g2 lv coded) y ds (d lv coded) (mask-any (min 8 (s .count)) mask small) u r es e in
           record {
             ok = λ v z q lv coded. f lv coded .ok v z q;
-            no = λ m n q u lv coded. f lv coded .no m n q (u ∙ same-number r);
+            no = λ m n q u lv coded. f lv coded .no m n q u;
           }
 
       module _ (g2 : Bool) where
@@ -268,7 +264,7 @@ module _ (p : Params) (h : Head) (at : Spot) (list : Bool) (l : List ℕ) (ctxSe
             o r e in
             record {
               ok = λ v z q lv coded. f lv coded .ok v z q;
-              no = λ m n q u lv coded. f lv coded .no m n q (u ∙ same-number r);
+              no = λ m n q u lv coded. f lv coded .no m n q u;
             }
 
         -- the levels; the code's words for what they start from
@@ -356,7 +352,7 @@ module _ (p : Params) (h : Head) (at : Spot) (list : Bool) (l : List ℕ) (ctxSe
               ∙ run-done list l (accOf (record { carry = carry; first = false; column = g .column }) coded after (set stats (sbType p (headOf h)) (g .stat))) z ds
               ∙ ap (λ i. Out.ok (accOf (record { carry = carry; first = false; column = g .column }) coded after (set stats i (g .stat))) (cursor z ds)) (sym eb)
 
-          all-no : (m : ℕ) (lv : ℕ → Wanted → ℤ) (coded : List Bool) → RefusedBy m (from list l (goingS p at lv g2 signs startOf levels) y ds)
+          all-no : (m : Refusal) (lv : ℕ → Wanted → ℤ) (coded : List Bool) → RefusedBy m (from list l (goingS p at lv g2 signs startOf levels) y ds)
               → RefusedBy m (from list l (whole lv coded) x cs)
           all-no m lv coded q =
               behind-no list l (whole lv coded) x cs (filledBy lv coded) (behindLevels lv coded) y ds (opened lv coded) m
@@ -375,7 +371,7 @@ module _ (p : Params) (h : Head) (at : Spot) (list : Bool) (l : List ℕ) (ctxSe
                     let f = levels-ok p at list l g2 signs startOf y levels r after g z e q in
                     (f .0, λ lv coded. all-ok g z after lv coded (f .2 lv ds));
                 no = λ m n q u lv coded.
-                    let i : m ≡ n = sym (u ∙ ap leveledNumber q) in
+                    let i : m ≡ n = sym (u ∙ ap leveledRefusal q) in
                     subst (λ k. RefusedBy k (from list l (whole lv coded) x cs)) i
                     (all-no m lv coded (levels-no p at list l g2 signs startOf y levels r after m e q lv ds));
               }

@@ -11,11 +11,12 @@ use lib.Seq.{drop-cons}
 use lib.Dec.{ltb, eqb}
 use borrow.Author.Tests.{ltb-true, ltb-false}
 use Rattle.bins.specs.declared.state.Interval.{Interval}
+use Rattle.bins.specs.declared.state.Refusal.{Refusal}
 use Rattle.bins.specs.declared.state.Step.{Step}
 use Rattle.bins.specs.declared.state.Step.the-variants as step
 use Rattle.bins.specs.Engine.{bitNo}
 use Rattle.bins.specs.Syn.{done, bin, _>>=_, Out}
-use Rattle.bins.specs.Sources.{cursor, byCode}
+use Rattle.bins.specs.Sources.{cursor, byCode, stopped, refusalOf}
 use Rattle.bins.specs.Laws.{RefusedBy, bind-ok, bind-no}
 use Rattle.hevc_residual.specs.Wanted.{Wanted, isBig}
 use Rattle.hevc_residual.specs.SubBlock.{greater1S, greater1CtxNext}
@@ -23,7 +24,6 @@ use Rattle.hevc_elements.specs.Agree.{Reads, from, SaysFlag, reads-on, flag-ok,
 use Rattle.hevc_elements.specs.ShapeLaws.{run-done}
 use Rattle.hevc_rules.specs.Packing.{unmask}
 use Rattle.hevc_rules.specs.PackingLaws.{bit-back, bit-most, maskWith, mask-small, mask-fits, mask-is}
-use Rattle.hevc_subblock.specs.PlacesAgree.{refusalOf}
 use Rattle.hevc_rules.specs.GreaterAgree.{none}
 use Rattle.hevc_rules.specs.GreaterLaws.{greater-end, greater-out, onFrom, greater-more, marked}
 
@@ -78,7 +78,7 @@ module _ (s : Bool) (l : List ℕ) (base n : ℕ) where
 
       -- r is what the bin answered, es the contexts behind it
       module _ (r : Step) (es : List ℕ) (e : (w : Wanted → Bool) → SaysFlag r es (from s l (bin (base + carry) w done) y ds)) where
-        pub marking-refused : (v : ℕ) → r ≡ step.Refused v → (u : ℕ) → u ≡ refusalOf r → (lv : ℕ → Wanted → ℤ) (ks : List ℕ) → min 8 (length ks) ≡ n
+        pub marking-refused : (v : Refusal) → r ≡ stopped v → (u : Refusal) → u ≡ refusalOf r → (lv : ℕ → Wanted → ℤ) (ks : List ℕ) → min 8 (length ks) ≡ n
             → RefusedBy u (from s l (greater1S lv base 8 ks none) x cs)
         marking-refused v q u p lv ks m =
             let w : Wanted → Bool = λ t. isBig lv t (getD ks j 0) in

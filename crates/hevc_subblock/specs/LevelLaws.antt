@@ -7,10 +7,11 @@ use native.Mathlib.Omega.{arith}
 use lib.IntN.{ℤ}
 use lib.ListN.{length, set, length-set}
 use Rattle.bins.specs.declared.state.Interval.{Interval}
+use Rattle.bins.specs.declared.state.Refusal.{Refusal}
 use Rattle.bins.specs.declared.state.Step.{Step}
 use Rattle.bins.specs.declared.state.Step.the-variants as step
 use Rattle.bins.specs.Syn.{done, stop, _>>=_, Out, run}
-use Rattle.bins.specs.Sources.{Cursor, cursor, byCode, Readable}
+use Rattle.bins.specs.Sources.{Cursor, cursor, byCode, Readable, stopped, refusedAt, refusalOf}
 use Rattle.bins.specs.Laws.{RefusedBy, bind-ok, bind-no}
 use Rattle.hevc_residual.specs.declared.params.Params.{Params}
 use Rattle.hevc_residual.specs.Wanted.{Wanted, area}
@@ -23,8 +24,7 @@ use Rattle.hevc_elements.specs.ShapeLaws.{run-done}
 use Rattle.hevc_rules.specs.declared.levels.Going.{Going}
 use Rattle.hevc_subblock.specs.declared.levels.Leveled.{Leveled}
 use Rattle.hevc_subblock.specs.declared.levels.Leveled.the-variants as leveled
-use Rattle.hevc_subblock.specs.PlacesAgree.{refusalOf}
-use Rattle.hevc_elements.specs.RemainderAgree.{most, SaysCapped}
+use Rattle.hevc_remainder.specs.RemainderAgree.{most, SaysCapped}
 use Rattle.hevc_rules.specs.LevelsAgree.{Site, Fine, Based, Lies, extraS, behindOf, goingS}
 use Rattle.hevc_subblock.specs.LevelsAgree.{SaysOne, SaysAll}
 use Rattle.hevc_rules.specs.DueLaws.{based-least}
@@ -36,7 +36,7 @@ capped-ok : (r : Step) (v : ℕ) (y : Interval) (cs : List ℕ) (o : Out Cursor 
     → (u : ℕ) × (v ≡ min u most) × (o ≡ Out.ok u (cursor y cs))
 capped-ok r v y cs o h q = subst (λ (z : Step). SaysCapped z cs o) q h
 
-capped-no : (r : Step) (n : ℕ) (cs : List ℕ) (o : Out Cursor ℕ) → SaysCapped r cs o → r ≡ step.Refused n → RefusedBy n o
+capped-no : (r : Step) (n : Refusal) (cs : List ℕ) (o : Out Cursor ℕ) → SaysCapped r cs o → r ≡ stopped n → RefusedBy n o
 capped-no r n cs o h q = subst (λ (z : Step). SaysCapped z cs o) q h
 
 pub capped-most : (r : Step) (v : ℕ) (y : Interval) (cs : List ℕ) (o : Out Cursor ℕ) → SaysCapped r cs o → r ≡ step.Bin v y → v ≤ most
@@ -70,12 +70,12 @@ module _ (p : Params) (xs ys : ℕ) (list : Bool) (l : List ℕ) (g2 : Bool) (si
       → whole lv cs ≡ from list l (extraS p more (g .rice) (wants p (spot xs ys) lv g2 signs g levels level more) >>= restS p (spot xs ys) lv g2 signs g levels level more) x cs
   turned lv cs = ap (λ t. from list l t x cs) (going-turn p (spot xs ys) lv g2 signs g levels level more some base)
 
-  pub level-refused : (n k : ℕ) → r ≡ step.Refused n → k ≡ refusalOf r → (lv : ℕ → Wanted → ℤ) (cs : List ℕ)
+  pub level-refused : (n k : Refusal) → r ≡ stopped n → k ≡ refusalOf r → (lv : ℕ → Wanted → ℤ) (cs : List ℕ)
       → RefusedBy k (from list l (goingS p (spot xs ys) lv g2 signs g levels) x cs)
   level-refused n k q kq lv cs =
       let w = wants p (spot xs ys) lv g2 signs g levels level more in
       let f = bind-no (byCode list l) (extraS p more (g .rice) w) (restS p (spot xs ys) lv g2 signs g levels level more) (cursor x cs) n (capped-no r n cs _ (e w cs) q) in
-      subst (λ (k : ℕ). RefusedBy k (whole lv cs)) (sym (kq ∙ ap refusalOf q)) (f .0, turned lv cs ∙ f .1)
+      subst (λ (k : Refusal). RefusedBy k (whole lv cs)) (sym (kq ∙ ap refusalOf q)) (f .0, turned lv cs ∙ f .1)
 
   module _ (v : ℕ) (y : Interval) (q : r ≡ step.Bin v y) where
     abbrev signNow : Bool
@@ -90,13 +90,13 @@ module _ (p : Params) (xs ys : ℕ) (list : Bool) (l : List ℕ) (g2 : Bool) (si
       tested : inRange (log2TransformRange p) signNow (level + v) ≡ b
       tested = sym (ap₂ (λ k n. inRange k n (level + v)) tq nq) ∙ sym bq
 
-      pub level-out : b ≡ false → (lv : ℕ → Wanted → ℤ) (cs : List ℕ) → RefusedBy 8 (from list l (goingS p (spot xs ys) lv g2 signs g levels) x cs)
+      pub level-out : b ≡ false → (lv : ℕ → Wanted → ℤ) (cs : List ℕ) → RefusedBy (refusedAt 8 y) (from list l (goingS p (spot xs ys) lv g2 signs g levels) x cs)
       level-out h lv cs =
           let w = wants p (spot xs ys) lv g2 signs g levels level more in
           let f = capped-ok r v y cs _ (e w cs) q in
           let o = range-out (log2TransformRange p) (range-small p (site .depth)) (λ k. negativeNow (g .signs) signs (g .sum + (level + k))) level (f .0) v (f .1)
           (tested ∙ h) in (
-            cursor y cs,
+            cs,
             turned lv cs
                 ∙ bind-ok (byCode list l) (extraS p more (g .rice) w) (restS p (spot xs ys) lv g2 signs g levels level more) (cursor x cs) (f .0) (cursor y cs) (f .2)
                 ∙ ap (λ d. from list l (ifIn p (spot xs ys) lv g2 signs g levels level more (f .0) d) y cs) o
@@ -147,7 +147,7 @@ module _ (p : Params) (s : Spot) (list : Bool) (l : List ℕ) (g2 : Bool) (signs
 
   module _ (g : Going) (y : Interval) (now : List ℤ) (h : Leveling g y now) (r : Leveled) (now′ : List ℤ) (long : length now′ ≡ area p)
       (e : SaysOne p s list l g2 signs g y now r now′) where
-    pub levels-refused : (n : ℕ) → r ≡ leveled.Refused n → SaysAll p s list l g2 signs start x levels r now′
+    pub levels-refused : (n : Refusal) → r ≡ leveled.Refused n → SaysAll p s list l g2 signs start x levels r now′
     levels-refused n q =
         let d : SaysOne p s list l g2 signs g y now (leveled.Refused n) now′ = subst (λ (z : Leveled). SaysOne p s list l g2 signs g y now z now′) q e in
         subst (λ (z : Leveled). SaysAll p s list l g2 signs start x levels z now′) (sym q)

@@ -7,10 +7,11 @@ use native.Mathlib.Omega.{arith}
 use lib.IntN.{ℤ}
 use lib.Dec.{eqb}
 use Rattle.bins.specs.declared.state.Interval.{Interval}
+use Rattle.bins.specs.declared.state.Refusal.{Refusal}
 use Rattle.bins.specs.declared.state.Step.{Step}
 use Rattle.bins.specs.declared.state.Step.the-variants as step
 use Rattle.bins.specs.Syn.{done, bin, _>>=_, Out}
-use Rattle.bins.specs.Sources.{cursor, byCode}
+use Rattle.bins.specs.Sources.{cursor, byCode, stopped, refusalOf}
 use Rattle.bins.specs.Laws.{RefusedBy, bind-ok, bind-no}
 use Rattle.hevc_residual.specs.Wanted.{Wanted, isSig, none}
 use Rattle.hevc_residual.specs.SubBlock.{placesS}
@@ -19,7 +20,6 @@ use Rattle.hevc_elements.specs.ShapeLaws.{run-done}
 use Rattle.hevc_rules.specs.declared.places.Places.{Places}
 use Rattle.hevc_rules.specs.Packing.{Packs, unpack, unpacked}
 use Rattle.hevc_rules.specs.PackingLaws.{bit-back, bit-most, unpack-none}
-use Rattle.hevc_subblock.specs.PlacesAgree.{refusalOf}
 use Rattle.hevc_rules.specs.PlacesLaws.{places-end, onFrom, byInfer, places-more}
 
 module _ (s : Bool) (l : List ℕ) (ctx : ℕ → ℕ) (infer : Bool) (below : ℕ) (met : Places) where
@@ -77,7 +77,7 @@ module _ (s : Bool) (l : List ℕ) (ctx : ℕ → ℕ) (infer : Bool) (below : �
             ∙ ap (λ z. from s l (byInfer z (bin (ctx (k - 1)) (λ v. isSig lv v (k - 1)) done >>= onFrom lv ctx infer (k - 1) (unpacked t))) y ds) off
             ∙ ap (λ z. from s l (bin z (λ v. isSig lv v (k - 1)) done >>= onFrom lv ctx infer (k - 1) (unpacked t)) y ds) (sym nq)
 
-        pub placing-refused : (v : ℕ) → r ≡ step.Refused v → (u : ℕ) → u ≡ refusalOf r → (lv : ℕ → Wanted → ℤ)
+        pub placing-refused : (v : Refusal) → r ≡ stopped v → (u : Refusal) → u ≡ refusalOf r → (lv : ℕ → Wanted → ℤ)
             → RefusedBy u (from s l (placesS lv ctx infer below (unpacked met)) x cs)
         placing-refused v q u p lv =
             let w : Wanted → Bool = λ o. isSig lv o (k - 1) in

@@ -3,14 +3,15 @@ use crate::greater::Greaters;
 use crate::greater::greater1;
 use crate::levels::Leveled;
 use crate::levels::read_levels;
-use crate::places::refusal;
 use bin_steps::steps::align_bypass;
 use bin_steps::steps::decode_bypass_bits;
 use bins::state::Interval;
+use bins::state::Refusal;
 use bins::state::Step;
+use bins::state::refusal_of;
 use bins::tags::CONTEXTS;
-use hevc_elements::head::Head;
 use hevc_elements::shapes::flag_if;
+use hevc_head::head::Head;
 use hevc_level_rules::coeffs::aligns;
 use hevc_level_rules::coeffs::eight;
 use hevc_level_rules::coeffs::greater1_base;
@@ -36,11 +37,11 @@ ghost use Rattle.hevc_rules.specs.Packing.{Packs};
 ghost use Rattle.hevc_rules.specs.LevelsAgree.{Site};
 ghost use Rattle.hevc_residual.specs.Limits.{Statistics};
 ghost use Rattle.hevc_rules.specs.CoeffsAgree.{Carries};
-ghost use Rattle.hevc_subblock.specs.CoeffsAgree.{SaysCoeffs, alignedIf, greatersNumber, leveledNumber};
+ghost use Rattle.hevc_subblock.specs.CoeffsAgree.{SaysCoeffs, alignedIf, greatersRefusal, leveledRefusal};
 
 pub enum Carried {
     Got(Carry, Interval),
-    Refused(u32),
+    Refused(Refusal),
 }
 
 fn align_if(due: bool, list: bool, bytes: &[u8], x: Interval) -> Step
@@ -53,24 +54,26 @@ fn align_if(due: bool, list: bool, bytes: &[u8], x: Interval) -> Step
     Step::Bin(0, x)
 }
 
-fn greaters_refusal(g: Greaters) -> u32
-    ensures { λ r. ⌜ r ≡ greatersNumber g ⌝ }
+fn greaters_refusal(g: Greaters) -> Refusal
+    ensures { λ r. ⌜ r ≡ greatersRefusal g ⌝ }
 {
     match g {
-        Greaters::Got(_, _) => 0,
-        Greaters::Refused(n) => n,
+        Greaters::Got(_, y) => Refusal { number: 0, at: y },
+        Greaters::Refused(r) => r,
     }
 }
 
-fn leveled_refusal(l: Leveled) -> u32
-    ensures { λ r. ⌜ r ≡ leveledNumber l ⌝ }
+fn leveled_refusal(l: Leveled) -> Refusal
+    ensures { λ r. ⌜ r ≡ leveledRefusal l ⌝ }
 {
     match l {
-        Leveled::Got(_, _) => 0,
-        Leveled::Refused(n) => n,
+        Leveled::Got(_, y) => Refusal { number: 0, at: y },
+        Leveled::Refused(r) => r,
     }
 }
 
+// A sub-block's levels, behind its places. What is lent is apart, since each function over a struct that held it would be walked by hand; then what the block has settled (p, t, h),
+// the sub-block's place, its context set and significant places, what is carried on.
 pub fn coeffs(
     list: bool,
     table: &[u32; 512],
@@ -115,16 +118,16 @@ pub fn coeffs(
         x1,
     );
     let Step::Bin(two, x2) = f else {
-        return Carried::Refused(refusal(f));
+        return Carried::Refused(refusal_of(f));
     };
     let a = align_if(aligns(p, s.count, mask, two == 1), list, bytes, x2);
     let Step::Bin(_z, x3) = a else {
-        return Carried::Refused(refusal(a));
+        return Carried::Refused(refusal_of(a));
     };
     let coded = s.count - hidden(p, h, s);
     let b = decode_bypass_bits(list, bytes, x3, coded);
     let Step::Bin(signs, x4) = b else {
-        return Carried::Refused(refusal(b));
+        return Carried::Refused(refusal_of(b));
     };
     let sb = sb_type(p, h.skip);
     let stat = stats[sb];

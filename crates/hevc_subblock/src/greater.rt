@@ -1,6 +1,8 @@
 // coeff_abs_level_greater1_flag, of the first eight levels at most.
 use bins::state::Interval;
+use bins::state::Refusal;
 use bins::state::Step;
+use bins::state::refusal_of;
 use bins::tags::CONTEXTS;
 use hevc_elements::shapes::context_bin;
 use hevc_level_rules::greater::carry_next;
@@ -25,7 +27,7 @@ pub struct Greater {
 
 pub enum Greaters {
     Got(Greater, Interval),
-    Refused(u32),
+    Refused(Refusal),
 }
 
 // n bins, with contexts base + greater1Ctx.
@@ -48,7 +50,7 @@ pub fn greater1(
     while j < n {
         let t = context_bin(list, table, contexts, base + carry as usize, bytes, y);
         let Step::Bin(b, next) = t else {
-            return Greaters::Refused(crate::places::refusal(t));
+            return Greaters::Refused(refusal_of(t));
         };
         mask = mask + (b << j);
         carry = carry_next(b, carry);

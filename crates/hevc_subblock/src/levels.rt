@@ -1,11 +1,13 @@
 // Signs and remainders, and the levels that they make, highest place first.
 use bins::state::Interval;
+use bins::state::Refusal;
 use bins::state::Step;
-use hevc_elements::remainder::in_range;
-use hevc_elements::remainder::remainder;
+use bins::state::refusal_of;
 use hevc_level_rules::levels::base_of;
 use hevc_level_rules::levels::behind;
 use hevc_level_rules::levels::cell_of;
+use hevc_remainder::remainder::in_range;
+use hevc_remainder::remainder::remainder;
 use hevc_residual::params::Params;
 use hevc_rules::levels::Going;
 ghost use mathlib.Core.Path.{_≡_};
@@ -19,13 +21,13 @@ ghost use Rattle.hevc_residual.specs.SubBlock.{negativeNow};
 ghost use Rattle.hevc_residual.specs.Scan.{spot};
 ghost use Rattle.hevc_elements.specs.Agree.{from};
 ghost use Rattle.hevc_scans.specs.Pairs.{pairsOf};
-ghost use Rattle.hevc_elements.specs.RemainderAgree.{SaysCapped};
+ghost use Rattle.hevc_remainder.specs.RemainderAgree.{SaysCapped};
 ghost use Rattle.hevc_rules.specs.LevelsAgree.{Fine, Site, extraS};
 ghost use Rattle.hevc_subblock.specs.LevelsAgree.{SaysOne, SaysAll};
 
 pub enum Leveled {
     Got(Going, Interval),
-    Refused(u32),
+    Refused(Refusal),
 }
 
 // A remainder where one follows.
@@ -82,13 +84,13 @@ pub fn one_level(
     let d = base_of(g.bins, g.mask, g.seen, greater2);
     let e = extra(list, p, d.more, g.rice, bytes, x);
     let Step::Bin(v, y) = e else {
-        return Leveled::Refused(crate::places::refusal(e));
+        return Leveled::Refused(refusal_of(e));
     };
     let m = d.level + v;
     let sum = g.sum + m;
     let negative = is_negative(g.signs, signs, sum);
     if !in_range(t, negative, m) {
-        return Leveled::Refused(8);
+        return Leveled::Refused(Refusal { number: 8, at: y });
     }
     let cell = cell_of(order, p, xs, ys, (g.places % 16) as usize);
     store(block, cell.at, negative, m);

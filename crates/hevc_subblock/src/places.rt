@@ -1,6 +1,8 @@
 // sig_coeff_flag: the significant places of a sub-block, highest first.
 use bins::state::Interval;
+use bins::state::Refusal;
 use bins::state::Step;
+use bins::state::refusal_of;
 use bins::tags::CONTEXTS;
 use hevc_elements::shapes::context_bin;
 use hevc_residual::params::Params;
@@ -19,24 +21,15 @@ ghost use Rattle.hevc_scans.specs.Pairs.{pairsOf, mapRows};
 ghost use Rattle.hevc_elements.specs.Agree.{Reads, from};
 ghost use Rattle.hevc_rules.specs.Packing.{Packs, unpacked};
 ghost use Rattle.hevc_rules.specs.PlacesAgree.{sigNumber};
-ghost use Rattle.hevc_subblock.specs.PlacesAgree.{SaysPlaces, refusalOf};
+ghost use Rattle.hevc_subblock.specs.PlacesAgree.{SaysPlaces};
 
 pub enum Placed {
     Got(Places, Interval),
-    Refused(u32),
+    Refused(Refusal),
 }
 
-// The number of a refusal.
-pub fn refusal(s: Step) -> u32
-    ensures { λ r. ⌜ r ≡ refusalOf s ⌝ }
-{
-    match s {
-        Step::Bin(_, _) => 0,
-        Step::Refused(n) => n,
-    }
-}
-
-// The places below from, behind those met already.
+// The places below `below`, behind those met already. What is lent is apart, since each function over a struct that held it would be walked by hand;
+// single, neighbours, xs and ys are what a place's context number is made of beside the place, infer whether place 0 may go without a bin.
 pub fn significance(
     list: bool,
     table: &[u32; 512],
@@ -74,7 +67,7 @@ pub fn significance(
         let number = sig_number(order, map, p, single, neighbours, xs, ys, k);
         let t = context_bin(list, table, contexts, number, bytes, y);
         let Step::Bin(b, next) = t else {
-            return Placed::Refused(refusal(t));
+            return Placed::Refused(refusal_of(t));
         };
         s = appended(s, k, b);
         y = next;

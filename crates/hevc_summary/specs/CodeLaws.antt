@@ -7,8 +7,7 @@ use native.Mathlib.Omega.{arith}
 use native.Mathlib.Nat.{div-le-self, mod-le, mul-zero}
 use lib.Dec.{leb, ltb, eqb}
 use lib.Pow.{pow-mono}
-use lib.Signed.{ltZ}
-use lib.IntN.{ℤ, pos, negsuc, natAbs}
+use lib.IntN.{ℤ, pos, natAbs}
 use lib.ListN.{length, getD, set, length-set}
 use borrow.Author.Tests.{lt-leb, le-leb, le-ltb, lt-ltb, eq-eqb, ne-eqb, eqb-true, eqb-false}
 use Rattle.counting.specs.Count.{nonzero, sumTo, updated}
@@ -181,10 +180,6 @@ module _ (log2 : ℕ) (counts sums : List ℕ) where
       cc
 
 -- ---- refusals
-pub negative-is : (z : ℤ) → ltZ z (pos 0) ≡ negative z
-negative-is (pos n) = le-ltb n 0 (omega arith)
-negative-is (negsuc n) = refl
-
 module _ (f : Form) (levels : List ℤ) where
   pub form-small : f .log2 < 2 → 4 ≡ formRefusal f levels
   unfolding formRefusal isForm

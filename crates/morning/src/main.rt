@@ -3,6 +3,7 @@
 //     morning [BOOK]             of a book, or of standard input
 //     morning YESTERDAY TODAY    of two, beside each other, with what changed
 //     morning --pgm SIZE [BOOK]  the heat map of a size (4, 8, 16, 32) alone, as a PGM picture
+// The figures' arrays are apart as in `morning_add::adding::add_event`.
 // A book is the name of a file, or - for standard input.
 // A piece is read and fed: morning_sums::feeding says what that adds up to, and that no cut into pieces matters.
 mod maps; // maps.rt: heat maps, as text and as a picture

@@ -47,7 +47,7 @@ fn add_to(
     }
 }
 
-// What a line gave, and the levels of its block.
+// What a line gave, and the levels of its block. Three lent arrays for each of four sizes, and the tallies, are parameters one by one: each function over a struct that held them would be walked by hand.
 pub fn add_event(
     e: LineRead,
     levels: &[i32; 1024],

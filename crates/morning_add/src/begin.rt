@@ -29,7 +29,7 @@ fn begin_size(
     a.totals
 }
 
-// All zero, whatever stood there.
+// All zero, whatever stood there. The arrays are apart as in `adding::add_event`.
 pub fn begin_book(
     blocks4: &mut [u32; 1024],
     sums4: &mut [u64; 1024],

@@ -1,4 +1,4 @@
-// A book, piece after piece, and its end.
+// A book, piece after piece, and its end. The figures' arrays are apart as in `morning_add::adding::add_event`.
 use book_lines::pending::Pending;
 use book_lines::pending::push;
 use morning_add::adding::Sizes;

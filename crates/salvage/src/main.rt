@@ -1,16 +1,16 @@
 // Salvages a spoiled book: standard input is the book, standard output the book that comes out. The report, a line for each line, goes to standard
 // error, or to the file that the first argument names, which must be new. At the end standard error has the tally in words.
-// A piece is read and fed, and what it gave is written: spoiled::salvage says what that is, and that no cut into pieces matters.
+// A piece is read and fed, and what it gave is written: spoiled_book::salvage says what that is, and that no cut into pieces matters.
 use book_lines::pending::Pending;
 use book_lines::pending::first;
 use libc::STDERR_FILENO;
 use libc::STDIN_FILENO;
 use libc::STDOUT_FILENO;
-use spoiled::salvage::feed;
-use spoiled::salvage::finish;
 use spoiled::tally::Tally;
 use spoiled::tally::none;
 use spoiled::tally::put_tally;
+use spoiled_book::salvage::feed;
+use spoiled_book::salvage::finish;
 ghost use mathlib.Core.Path.{_≡_};
 ghost use Prim.Native.Nat.{_+_, _*_, _≤_, _<_};
 ghost use lib.ListN.{length};

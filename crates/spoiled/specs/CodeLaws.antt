@@ -1,27 +1,22 @@
 -- Laws as the code meets them: a byte, a line lowered where it stands, its words, the tally, a line that has ended. Assumes nothing.
-use Prim.Native.Nat.{ℕ, zero, suc, _+_, _*_, _≤_, _<_}
+use Prim.Native.Nat.{ℕ, zero, suc, _+_, _≤_, _<_}
 use native.Mathlib.Omega.{arith}
 use native.Mathlib.Numerals.{add-one}
 use mathlib.Core.Path.{_≡_, refl, sym, ap, _∙_}
 use mathlib.Core.Bool.{Bool, true, false, cond}
 use mathlib.Core.List.{List, [], _∷_, _++_, append-assoc, append-nil}
-use lib.Dec.{eqb}
 use lib.ListN.{length, take, drop, getD, set, length-append, take-append-drop}
 use lib.Seq.{take-at, drop-cons, take-suc, set-at, getD-at, length-take-le}
 use borrow.Author.Tests.{eq-eqb, ne-eqb}
-use Rattle.text_fields.specs.Spelled.{within}
 use Rattle.text_fields.specs.SpelledLaws.{both, inside}
 use Rattle.text_room.specs.Decimal.{decimal}
 use Rattle.book_lines.specs.Lines.{Line, lineOf, lineFeed}
 use Rattle.book_lines.specs.Form.{formRefusal}
-use Rattle.book_lines.specs.Steps.{Reading, reading, stepState, stepOut, fedState, fedOut}
-use Rattle.book_lines.specs.CodeLaws.{outside, fed-next, out-next, fed-all, out-all}
-use Rattle.book_lines.specs.declared.pending.Pending.{Pending}
+use Rattle.book_lines.specs.CodeLaws.{outside}
 use Rattle.spoiled.specs.declared.tally.Tally.{Tally}
-use Rattle.spoiled.specs.declared.salvage.Salvaging.{Salvaging}
 use Rattle.spoiled.specs.Salvage.{isUpper, lower, lowered, uppers, loweredLine, fate, keptOf, salvagedAs, salvagedLine, keptWord, loweredWord, droppedWord, fateWords, reportLine, kindOf, kindLine, count, counted, all, linesWord}
 use Rattle.spoiled.specs.SalvageLaws.{length-lowered}
-use Rattle.spoiled.specs.Gave.{Gave, tally-of, gave-none, gave-as, gave-then}
+use Rattle.spoiled.specs.Gave.{Gave, tally-of}
 
 -- ---- a byte
 pub upper-is : (b : ℕ) → 65 ≤ b → b ≤ 70 → true ≡ isUpper b
@@ -206,57 +201,3 @@ line-gave n k u l m b p b′ p′ e t t′ hk hu hm hb hp ht =
       in-tally =
           ht ∙ ap (λ (x : ℕ). counted t (kindOf x u ∷ [])) hk ∙ ap (λ (x : ℕ). counted t (kindOf (fate (lineOf l e)) x ∷ [])) hu;
     }
-
--- ---- a piece: what its first i bytes gave, from s₀ with line₀ to s with line, book and report
-pub record Feeding (piece line₀ line book report : List ℕ) (s₀ s : Salvaging) (i : ℕ) : Type 0 where
-  pub state : reading line (s .line) ≡ fedState (reading line₀ (s₀ .line)) (take i piece)
-  pub gave : Gave (λ (f : ℕ → Line → List ℕ). fedOut f (reading line₀ (s₀ .line)) (take i piece)) [] [] (s₀ .tally) (take (s .book) book) (take (s .report) report) (s .tally)
-  pub holds : s .line .held ≤ 8469
-  pub book-room : s .book + s .line .held ≤ s₀ .line .held + i
-  pub report-room : s .report ≤ 64 * i
-  pub numbers : s .line .number ≤ s₀ .line .number + i
-  pub fewer : all (s .tally) < s .line .number
-
-pub feeding-begun : (piece line book report : List ℕ) (p : Pending) (t : Tally) → p .held ≤ 8469 → all t < p .number
-    → Feeding piece line line book report (record { line = p; tally = t; book = 0; report = 0 }) (record { line = p; tally = t; book = 0; report = 0 }) 0
-unfolding fedState fedOut
-feeding-begun piece line book report p t h k =
-    record {
-      state = refl;
-      gave = gave-none [] [] t;
-      holds = h;
-      book-room = omega arith;
-      report-room = omega arith;
-      numbers = omega arith;
-      fewer = k;
-    }
-
-module _ (piece line₀ line line′ book book′ report report′ : List ℕ) (s₀ s s′ : Salvaging) (i : ℕ) (w : Feeding piece line₀ line book report s₀ s i) where
-  pub feeding-more : i < length piece
-      → reading line′ (s′ .line) ≡ stepState (reading line (s .line)) (getD piece i 0)
-      → Gave (λ (f : ℕ → Line → List ℕ). stepOut f (reading line (s .line)) (getD piece i 0)) (take (s .book) book) (take (s .report) report) (s .tally) (take (s′ .book) book′) (take (s′ .report) report′) (s′ .tally)
-      → s′ .line .held ≤ 8469 → s′ .book + s′ .line .held ≤ s .book + s .line .held + 1 → s′ .report ≤ s .report + 64 → s′ .line .number ≤ s .line .number + 1
-      → all (s′ .tally) < s′ .line .number
-      → Feeding piece line₀ line′ book′ report′ s₀ s′ (i + 1)
-  feeding-more h e g a b c d j =
-      let r = reading line₀ (s₀ .line) in
-      let x = getD piece i 0 in
-      record {
-        state = e ∙ ap (λ (q : Reading). stepState q x) (w .state) ∙ fed-next r piece i h;
-        gave =
-            gave-as (λ (f : ℕ → Line → List ℕ). ap (λ (q : Reading). fedOut f r (take i piece) ++ stepOut f q x) (w .state) ∙ out-next r piece i h f)
-            (gave-then (w .gave) g);
-        holds = a;
-        book-room = let z = w .book-room in omega arith;
-        report-room = let z = w .report-room in omega arith;
-        numbers = let z = w .numbers in omega arith;
-        fewer = j;
-      }
-
-module _ (piece line₀ line book report : List ℕ) (s₀ s : Salvaging) (i : ℕ) (w : Feeding piece line₀ line book report s₀ s i) where
-  pub feeding-state : length piece ≤ i → reading line (s .line) ≡ fedState (reading line₀ (s₀ .line)) piece
-  feeding-state h = w .state ∙ fed-all (reading line₀ (s₀ .line)) piece i h
-
-  pub feeding-gave : length piece ≤ i
-      → Gave (λ (f : ℕ → Line → List ℕ). fedOut f (reading line₀ (s₀ .line)) piece) [] [] (s₀ .tally) (take (s .book) book) (take (s .report) report) (s .tally)
-  feeding-gave h = gave-as (out-all (reading line₀ (s₀ .line)) piece i h) (w .gave)

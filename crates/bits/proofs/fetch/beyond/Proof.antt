@@ -6,8 +6,8 @@ use Rattle.bits.proofs.fetch.beyond.Tie as tie
 add-p : tie.Need-add-p
 add-p c = search needs
 
-mul-end : tie.Need-mul-end
-mul-end c = search needs
+end-of-requires : tie.Need-end-of-requires
+end-of-requires c κs = search needs
 
 returns : tie.Need-returns
 returns c = search needs
@@ -25,4 +25,4 @@ returns-3 : tie.Need-returns-3
 returns-3 c = search needs
 
 pub beyond-spec : {M : Type 1} → statement M
-beyond-spec = tie.close (tie.spec add-p mul-end returns returns-2 sub-result cast-result returns-3)
+beyond-spec = tie.close (tie.spec add-p end-of-requires returns returns-2 sub-result cast-result returns-3)

@@ -55,8 +55,8 @@ enum-known-f c = search needs
 enum-told : tie.Need-enum-told
 enum-told c = search needs
 
-refusal-requires : tie.Need-refusal-requires
-refusal-requires c κs = search needs
+refusal-of-requires : tie.Need-refusal-of-requires
+refusal-of-requires c κs = search needs
 
 same-length : tie.Need-same-length
 same-length c = search needs
@@ -74,7 +74,7 @@ returns c =
       b .pre .6,
       b .pre .8,
       flag-refused (a .p) (a .h) (a .last) (a .lastin) (a .i) (a .xs) (a .ys) (b .pre .10) (a .list) (a .bytes .now) (a .c) (a .coded .now) (a .block .now) (a .stats .now) (a .x) (a .contexts .now) (a .w) (b .pre .14)
-          (n .result) (n .ensures) (m .result) (m .ensures) (k .result) (k .ensures .0) (f .result) (f .last .1 .1 .1 .0) (f .ensures) _ _ (c .before .enum-told .given .1) (c .refusal .ensures),
+          (n .result) (n .ensures) (m .result) (m .ensures) (k .result) (k .ensures .0) (f .result) (f .last .1 .1 .1 .0) (f .ensures) _ _ (c .before .enum-told .given .1) (c .refusal-of .ensures),
     )
 
 same-length-2 : tie.Need-same-length-2
@@ -301,7 +301,7 @@ sub-block-spec =
     coded-flag-requires
     enum-known-f
     enum-told
-    refusal-requires
+    refusal-of-requires
     same-length
     returns
     same-length-2

@@ -1,22 +1,15 @@
--- `context_bin` meets its contract. Assumes nothing.
+-- `context_bin` meets its contract: every syntax's bin with a context, at HEVC's wants. Assumes nothing.
 use native.Mathlib.Omega.{arith}
-use Rattle.hevc_elements.specs.ShapeLaws.{bin-says}
 use borrow.Author.Needs.{needs}
+use Rattle.hevc_elements.specs.ShapeLaws.{flag-any}
 use Rattle.hevc_elements.proofs.shapes.context_bin.Statement.{statement}
 use Rattle.hevc_elements.proofs.shapes.context_bin.Tie as tie
 
-index-1-decode-bin : tie.Need-index-1-decode-bin
-index-1-decode-bin c = search needs
-
-cast-decode-bin : tie.Need-cast-decode-bin
-cast-decode-bin c = search needs
-
-decode-bin-requires : tie.Need-decode-bin-requires
-decode-bin-requires c κs = let h = c .before .before .pre in (h .0 .0, h .0 .1 _, omega arith, h .2)
+context-bin-requires : tie.Need-context-bin-requires
+context-bin-requires c κs = search needs
 
 returns : tie.Need-returns
-returns c = λ w. let a = c .before .before .before .args in bin-says (a .list) (a .bytes .now) (a .number) (a .x) (a .contexts .now) _ _ (c .decode-bin .ensures .0) (c .decode-bin .ensures .1) w
+returns c = λ w. let a = c .before .before .before .args in flag-any (a .list) (a .bytes .now) (a .number) (a .x) (a .contexts .now) (c .context-bin .result) (c .context-bin .last .1 .1 .0) (c .context-bin .ensures) w
 
 pub context-bin-spec : {M : Type 1} → statement M
-context-bin-spec =
-    tie.close (tie.spec index-1-decode-bin cast-decode-bin decode-bin-requires returns)
+context-bin-spec = tie.close (tie.spec context-bin-requires returns)

@@ -24,11 +24,11 @@ enum-known-s c = search needs
 enum-told : tie.Need-enum-told
 enum-told c = search needs
 
-refusal-requires : tie.Need-refusal-requires
-refusal-requires c κs = search needs
+refusal-of-requires : tie.Need-refusal-of-requires
+refusal-of-requires c κs = search needs
 
 returns : tie.Need-returns
-returns c = let a = c .before .before .before .before .before .before .args in let p = c .before .before .before .prefix in value-read (a .list) (a .bytes .now) (a .x) (a .contexts .now) (a .component) (p .result) (p .last .1 .1 .0) (p .ensures) (c .before .before .before .before .before .before .pre .0) .no _ _ (c .before .enum-told .given .1) (c .refusal .ensures)
+returns c = let a = c .before .before .before .before .before .before .args in let p = c .before .before .before .prefix in value-read (a .list) (a .bytes .now) (a .x) (a .contexts .now) (a .component) (p .result) (p .last .1 .1 .0) (p .ensures) (c .before .before .before .before .before .before .pre .0) .no _ _ (c .before .enum-told .given .1) (c .refusal-of .ensures)
 
 returns-2 : tie.Need-returns-2
 returns-2 c = let a = c .before .before .before .before .before .before .before .args in let p = c .before .before .before .before .prefix in let g = c .before .before .s .given in none-got (a .list) (a .bytes .now) (a .x) (a .contexts .now) (a .component) (g .0 .0) (g .0 .1 .0) (p .last .1 .1 .0) (value-read (a .list) (a .bytes .now) (a .x) (a .contexts .now) (a .component) (p .result) (p .last .1 .1 .0) (p .ensures) (c .before .before .before .before .before .before .before .pre .0) .ok _ _ (g .1)) (c .if1 .taken)
@@ -45,11 +45,11 @@ enum-known-t c = search needs
 enum-told-2 : tie.Need-enum-told-2
 enum-told-2 c = search needs
 
-refusal-requires-2 : tie.Need-refusal-requires-2
-refusal-requires-2 c κs = search needs
+refusal-of-requires-2 : tie.Need-refusal-of-requires-2
+refusal-of-requires-2 c κs = search needs
 
 returns-3 : tie.Need-returns-3
-returns-3 c = let a = c .before .before .before .before .before .before .before .before .before .before .before .before .args in let p = c .before .before .before .before .before .before .before .before .before .prefix in let g = c .before .before .before .before .before .before .before .s .given in let q = c .before .before .before .context-bin in sign-read (a .list) (a .bytes .now) (a .x) (a .contexts .now) (a .component) (g .0 .0) (g .0 .1 .0) (p .last .1 .1 .0) (value-read (a .list) (a .bytes .now) (a .x) (a .contexts .now) (a .component) (p .result) (p .last .1 .1 .0) (p .ensures) (c .before .before .before .before .before .before .before .before .before .before .before .before .pre .0) .ok _ _ (g .1)) (c .before .before .before .before .before .if1 .left) (q .result) (q .last .1 .1 .0) (q .ensures) .no _ _ (c .before .enum-told2 .given .1) (c .refusal2 .ensures)
+returns-3 c = let a = c .before .before .before .before .before .before .before .before .before .before .before .before .args in let p = c .before .before .before .before .before .before .before .before .before .prefix in let g = c .before .before .before .before .before .before .before .s .given in let q = c .before .before .before .context-bin in sign-read (a .list) (a .bytes .now) (a .x) (a .contexts .now) (a .component) (g .0 .0) (g .0 .1 .0) (p .last .1 .1 .0) (value-read (a .list) (a .bytes .now) (a .x) (a .contexts .now) (a .component) (p .result) (p .last .1 .1 .0) (p .ensures) (c .before .before .before .before .before .before .before .before .before .before .before .before .pre .0) .ok _ _ (g .1)) (c .before .before .before .before .before .if1 .left) (q .result) (q .last .1 .1 .0) (q .ensures) .no _ _ (c .before .enum-told2 .given .1) (c .refusal-of2 .ensures)
 
 signed-of-requires : tie.Need-signed-of-requires
 signed-of-requires c κs = let a = c .before .before .before .before .before .before .before .before .before .before .before .before .args in let p = c .before .before .before .before .before .before .before .before .before .prefix in let g = c .before .before .before .before .before .before .before .s .given in (omega (arith, c .before .before .before .before .before .if1 .left), value-few (a .list) (a .bytes .now) (a .x) (a .contexts .now) (a .component) (p .result) (p .last .1 .1 .0) (p .ensures) (g .0 .0) (g .0 .1 .0) (g .1))
@@ -66,14 +66,14 @@ read-scale-spec =
     prefix-requires
     enum-known-s
     enum-told
-    refusal-requires
+    refusal-of-requires
     returns
     returns-2
     add-context-bin
     context-bin-requires
     enum-known-t
     enum-told-2
-    refusal-requires-2
+    refusal-of-requires-2
     returns-3
     signed-of-requires
     returns-4)

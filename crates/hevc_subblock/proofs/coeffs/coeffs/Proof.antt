@@ -8,6 +8,7 @@ use lib.IntN.{ℤ}
 use lib.ListN.{getD, set}
 use lib.Dec.{eqb}
 use Rattle.bins.specs.declared.state.Interval.{Interval}
+use Rattle.bins.specs.declared.state.Refusal.{Refusal}
 use Rattle.bins.specs.Syn.{Out}
 use Rattle.bins.specs.Sources.{cursor}
 use Rattle.hevc_residual.specs.Wanted.{Wanted, S}
@@ -66,7 +67,7 @@ start5 c = start4 (call4 c)
 abbrev Behind : tie.Start → ((ℕ → Wanted → ℤ) → List Bool → S Acc) → Interval → List ℕ → Type 0
 Behind b t y ds = Left (b .args .p) (b .args .h) (spot (b .args .xs) (b .args .ys)) (b .args .list) (b .args .bytes .now) (b .args .ctxset) (b .args .s) (b .args .c) (b .args .x) (b .args .contexts .now) (b .args .block .now) (b .args .stats .now) t y ds
 
-abbrev None : tie.Start → ℕ → Type 0
+abbrev None : tie.Start → Refusal → Type 0
 None b n = NoLevels (b .args .p) (b .args .h) (spot (b .args .xs) (b .args .ys)) (b .args .list) (b .args .bytes .now) (b .args .ctxset) (b .args .s) (b .args .c) (b .args .x) (b .args .contexts .now) (b .args .block .now) (b .args .stats .now) n
 
 -- what each call's answer leads to
@@ -185,11 +186,11 @@ enum-known-f c = search needs
 enum-told-2 : tie.Need-enum-told-2
 enum-told-2 c = search needs
 
-refusal-requires : tie.Need-refusal-requires
-refusal-requires c κs = search needs
+refusal-of-requires : tie.Need-refusal-of-requires
+refusal-of-requires c κs = search needs
 
 returns-2 : tie.Need-returns-2
-returns-2 c = let d = c .before .before .before in let b = start2 d in (b .pre .4, b .pre .6, at-two d .no _ _ (c .before .enum-told2 .given .1) (c .refusal .ensures))
+returns-2 c = let d = c .before .before .before in let b = start2 d in (b .pre .4, b .pre .6, at-two d .no _ _ (c .before .enum-told2 .given .1) (c .refusal-of .ensures))
 
 aligns-requires : tie.Need-aligns-requires
 aligns-requires c κs = search needs
@@ -203,11 +204,11 @@ enum-known-a c = search needs
 enum-told-3 : tie.Need-enum-told-3
 enum-told-3 c = search needs
 
-refusal-requires-2 : tie.Need-refusal-requires-2
-refusal-requires-2 c κs = search needs
+refusal-of-requires-2 : tie.Need-refusal-of-requires-2
+refusal-of-requires-2 c κs = search needs
 
 returns-3 : tie.Need-returns-3
-returns-3 c = let d = c .before .before .before in let b = start3 d in (b .pre .4, b .pre .6, at-align d .no _ _ (c .before .enum-told3 .given .1) (c .refusal2 .ensures))
+returns-3 c = let d = c .before .before .before in let b = start3 d in (b .pre .4, b .pre .6, at-align d .no _ _ (c .before .enum-told3 .given .1) (c .refusal-of2 .ensures))
 
 hidden-requires : tie.Need-hidden-requires
 hidden-requires c κs = let b = start3 (c .before .before .before) in (b .pre .8, b .pre .9)
@@ -230,11 +231,11 @@ enum-known-b c = search needs
 enum-told-4 : tie.Need-enum-told-4
 enum-told-4 c = search needs
 
-refusal-requires-3 : tie.Need-refusal-requires-3
-refusal-requires-3 c κs = search needs
+refusal-of-requires-3 : tie.Need-refusal-of-requires-3
+refusal-of-requires-3 c κs = search needs
 
 returns-4 : tie.Need-returns-4
-returns-4 c = let d = c .before .before .before in let b = start4 d in (b .pre .4, b .pre .6, at-signs d .no _ _ (c .before .enum-told4 .given .1) (c .refusal3 .ensures))
+returns-4 c = let d = c .before .before .before in let b = start4 d in (b .pre .4, b .pre .6, at-signs d .no _ _ (c .before .enum-told4 .given .1) (c .refusal-of3 .ensures))
 
 sb-type-requires : tie.Need-sb-type-requires
 sb-type-requires c κs = search needs
@@ -322,20 +323,20 @@ coeffs-spec =
     flag-if-requires
     enum-known-f
     enum-told-2
-    refusal-requires
+    refusal-of-requires
     returns-2
     aligns-requires
     align-if-requires
     enum-known-a
     enum-told-3
-    refusal-requires-2
+    refusal-of-requires-2
     returns-3
     hidden-requires
     sub-coded
     decode-bypass-bits-requires
     enum-known-b
     enum-told-4
-    refusal-requires-3
+    refusal-of-requires-3
     returns-4
     sb-type-requires
     element-copy-out-stat

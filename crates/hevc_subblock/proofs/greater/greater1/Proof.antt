@@ -30,11 +30,11 @@ enum-known-t c = search needs
 enum-told : tie.Need-enum-told Inv-loop μ-loop
 enum-told c = search needs
 
-refusal-requires : tie.Need-refusal-requires Inv-loop μ-loop
-refusal-requires c κs = search needs
+refusal-of-requires : tie.Need-refusal-of-requires Inv-loop μ-loop
+refusal-of-requires c κs = search needs
 
 returns : tie.Need-returns Inv-loop μ-loop
-returns c = λ lv ks m. let r = c .before .before .before .context-bin in let a = c .before .before .before .before .before .before .before .before .args in let t = c .before .before .before .before .before .before .loop in marking-refused (a .list) (a .bytes .now) (a .base) (a .n) (a .x) (a .contexts .now) (t .y) (t .contexts) (t .mask) (t .carry) (t .j) (t .inv) (c .before .before .before .before .before .loop-test .taken) (c .before .before .before .before .before .before .before .before .pre .3) (r .result) (r .last .1 .1 .0) (r .ensures) _ (c .before .enum-told .given .1) (c .refusal .result) (c .refusal .ensures) lv ks m
+returns c = λ lv ks m. let r = c .before .before .before .context-bin in let a = c .before .before .before .before .before .before .before .before .args in let t = c .before .before .before .before .before .before .loop in marking-refused (a .list) (a .bytes .now) (a .base) (a .n) (a .x) (a .contexts .now) (t .y) (t .contexts) (t .mask) (t .carry) (t .j) (t .inv) (c .before .before .before .before .before .loop-test .taken) (c .before .before .before .before .before .before .before .before .pre .3) (r .result) (r .last .1 .1 .0) (r .ensures) _ (c .before .enum-told .given .1) (c .refusal-of .result) (c .refusal-of .ensures) lv ks m
 
 shl-mask : tie.Need-shl-mask Inv-loop μ-loop
 shl-mask c = omega (arith, c .before .before .before .before .before .loop-test .taken, c .before .before .before .before .before .before .before .before .pre .3)
@@ -69,7 +69,7 @@ greater1-spec =
     context-bin-requires
     enum-known-t
     enum-told
-    refusal-requires
+    refusal-of-requires
     returns
     shl-mask
     add-mask

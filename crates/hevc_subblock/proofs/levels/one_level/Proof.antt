@@ -22,8 +22,8 @@ enum-known-e c = search needs
 enum-told : tie.Need-enum-told
 enum-told c = search needs
 
-refusal-requires : tie.Need-refusal-requires
-refusal-requires c κs = search needs
+refusal-of-requires : tie.Need-refusal-of-requires
+refusal-of-requires c κs = search needs
 
 returns : tie.Need-returns
 returns c =
@@ -31,7 +31,7 @@ returns c =
     let h = c .before .before .before .before .before .before .pre in
     let b = c .before .before .before .before .base-of in
     let r = c .before .before .before .extra in
-    (h .3, level-refused (a .p) (a .xs) (a .ys) (a .list) (a .bytes .now) (a .greater2) (a .signs) (a .g) (a .x) (a .block .now) (h .2) (h .5) (h .6) (b .result .level) (b .result .more) (b .ensures) (r .result) (r .ensures) _ (c .refusal .result) (c .before .enum-told .given .1) (c .refusal .ensures))
+    (h .3, level-refused (a .p) (a .xs) (a .ys) (a .list) (a .bytes .now) (a .greater2) (a .signs) (a .g) (a .x) (a .block .now) (h .2) (h .5) (h .6) (b .result .level) (b .result .more) (b .ensures) (r .result) (r .ensures) _ (c .refusal-of .result) (c .before .enum-told .given .1) (c .refusal-of .ensures))
 
 add-m : tie.Need-add-m
 add-m c =
@@ -118,7 +118,7 @@ one-level-spec =
     extra-requires
     enum-known-e
     enum-told
-    refusal-requires
+    refusal-of-requires
     returns
     add-m
     add-sum

@@ -37,11 +37,11 @@ enum-known-t c = search needs
 enum-told : tie.Need-enum-told Inv-loop μ-loop
 enum-told c = search needs
 
-refusal-requires : tie.Need-refusal-requires Inv-loop μ-loop
-refusal-requires c κs = search needs
+refusal-of-requires : tie.Need-refusal-of-requires Inv-loop μ-loop
+refusal-of-requires c κs = search needs
 
 returns-2 : tie.Need-returns-2 Inv-loop μ-loop
-returns-2 c = λ lv. let m = c .before .before .before .before .before .sig-number in let r = c .before .before .before .context-bin in let q = c .before .before .before .before .before .before .before .inferred in let a = c .before .before .before .before .before .before .before .before .before .before .before .args in let t = c .before .before .before .before .before .before .before .before .before .loop in placing-refused (a .list) (a .bytes .now) (sigNumber (a .p) (a .single) (a .neighbours) (a .xs) (a .ys)) (a .infer) (a .below) (a .met) (a .x) (a .contexts .now) (t .y) (t .contexts) (t .k) (t .s) (t .inv) (c .before .before .before .before .before .before .before .before .loop-test .taken) (q .result) (q .ensures) (c .before .before .before .before .before .before .if1 .left) (m .result) (m .ensures) (r .result) (r .last .1 .1 .0) (r .ensures) _ (c .before .enum-told .given .1) (c .refusal .result) (c .refusal .ensures) lv
+returns-2 c = λ lv. let m = c .before .before .before .before .before .sig-number in let r = c .before .before .before .context-bin in let q = c .before .before .before .before .before .before .before .inferred in let a = c .before .before .before .before .before .before .before .before .before .before .before .args in let t = c .before .before .before .before .before .before .before .before .before .loop in placing-refused (a .list) (a .bytes .now) (sigNumber (a .p) (a .single) (a .neighbours) (a .xs) (a .ys)) (a .infer) (a .below) (a .met) (a .x) (a .contexts .now) (t .y) (t .contexts) (t .k) (t .s) (t .inv) (c .before .before .before .before .before .before .before .before .loop-test .taken) (q .result) (q .ensures) (c .before .before .before .before .before .before .if1 .left) (m .result) (m .ensures) (r .result) (r .last .1 .1 .0) (r .ensures) _ (c .before .enum-told .given .1) (c .refusal-of .result) (c .refusal-of .ensures) lv
 
 appended-requires : tie.Need-appended-requires Inv-loop μ-loop
 appended-requires c κs = let i = c .before .before .before .before .before .before .before .before .before .loop .inv in (i .packs, omega (arith, i .room, c .before .before .before .before .before .before .before .before .loop-test .taken), omega (arith, i .room), let m = c .before .before .before .before .before .sig-number in let r = c .before .before .before .context-bin in let q = c .before .before .before .before .before .before .before .inferred in let a = c .before .before .before .before .before .before .before .before .before .before .before .args in let t = c .before .before .before .before .before .before .before .before .before .loop in placing-bit (a .list) (a .bytes .now) (sigNumber (a .p) (a .single) (a .neighbours) (a .xs) (a .ys)) (a .infer) (a .below) (a .met) (a .x) (a .contexts .now) (t .y) (t .contexts) (t .k) (t .s) (t .inv) (c .before .before .before .before .before .before .before .before .loop-test .taken) (q .result) (q .ensures) (c .before .before .before .before .before .before .if1 .left) (m .result) (m .ensures) (r .result) (r .last .1 .1 .0) (r .ensures) _ _ (c .before .t .given .1))
@@ -69,7 +69,7 @@ significance-spec =
     context-bin-requires
     enum-known-t
     enum-told
-    refusal-requires
+    refusal-of-requires
     returns-2
     appended-requires
     loop-less

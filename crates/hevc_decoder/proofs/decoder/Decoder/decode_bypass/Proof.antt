@@ -45,10 +45,10 @@ use Rattle.cabac.specs.Entries.{binsSay, bypassBits}
 use Rattle.cabac.specs.declared.engine.Bins.{Bins}
 use Rattle.cabac.proofs.engine.Bins as S
 use Rattle.cabac.proofs.engine.Bins.Laws as S′
-use Rattle.cabac_engine.proofs.engine.decode_bypass as entry
-use Rattle.cabac_engine.proofs.engine.decode_bypass.Symbol as entry-def
-use Rattle.cabac_engine.proofs.engine.decode_bypass.Symbol.{name as #entry}
-use Rattle.cabac_engine.proofs.engine.decode_bypass.Met as entry-thm
+use Rattle.cabac_bins.proofs.decode.decode_bypass as entry
+use Rattle.cabac_bins.proofs.decode.decode_bypass.Symbol as entry-def
+use Rattle.cabac_bins.proofs.decode.decode_bypass.Symbol.{name as #entry}
+use Rattle.cabac_bins.proofs.decode.decode_bypass.Met as entry-thm
 use Rattle.hevc_decoder.specs.declared.decoder.Decoder.{Decoder}
 use Rattle.hevc_decoder.proofs.decoder.Decoder.Laws as T′
 use Rattle.hevc_decoder.proofs.HeldType.{B, D, L}
@@ -160,5 +160,5 @@ decode-bypass-spec 𝓤 H 𝓜 𝓖 𝓡 =
     entered 𝓤 H (tripleOf 𝓤 H (𝓖 .A) method.signature (method.spec 𝓤 H (𝓖 .A) (𝓜 .mem) (𝓡 .run)))
     (tables 𝓤 H 𝓜 𝓡 code.env .C) (tables 𝓤 H 𝓜 𝓡 code.env .Λ) #method code.function (code.unfolded 𝓤 H 𝓜 𝓡)
     (meets 𝓤 H (𝓖 .A) (givenOf 𝓤 H 𝓜 𝓖) (𝓜 .mem) (𝓡 .run) (tablesOf 𝓤 H 𝓜 (tables 𝓤 H 𝓜 𝓡 code.env))
-    (cited 𝓤 H (Entry 𝓤 H (𝓖 .A) (𝓜 .mem) (𝓡 .run)) 𝓜 𝓡 code.env #entry entry-def.routine code.calls-cabac-engine·engine·decode-bypass
+    (cited 𝓤 H (Entry 𝓤 H (𝓖 .A) (𝓜 .mem) (𝓡 .run)) 𝓜 𝓡 code.env #entry entry-def.routine code.calls-cabac-bins·decode·decode-bypass
     (entry-thm.met 𝓤 H 𝓜 𝓖 𝓡)))

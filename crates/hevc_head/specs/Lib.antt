@@ -1,0 +1,2 @@
+pub mod HeadAgree
+pub mod HeadLaws

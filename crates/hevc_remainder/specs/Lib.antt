@@ -1,0 +1,2 @@
+pub mod RemainderAgree
+pub mod RemainderLaws
