@@ -1,15 +1,15 @@
 #!/usr/bin/env python3
 """Writes records that the program cases reads, from the vectors of real streams.
 
-    case_lines.py VECTORS FILE [MORE]     FILE is crates/cases/stdin: what stands behind its line MARK is written anew
+    case_lines.py VECTORS FILE [MORE..]   FILE is crates/cases/stdin: what stands behind its line MARK is written anew
     case_lines.py VECTORS FILE all        FILE gets every record of the vectors, not only a sample
 
 VECTORS has hevc.txt, rext.txt, forced.txt, cross.txt, init.txt, engine.txt (VECTORS/FORMAT.md) and the folder 02 with the files REQUESTS,
-whose lines are records already (VECTORS/FORMAT-02.md). MORE is what `oracle sample` writes (oracle/README.md), records too.
+whose lines are records already (VECTORS/FORMAT-02.md). MORE is what `oracle sample` and `oracle packsample` write (oracle/README.md), records too.
 
 A block of a stream becomes a record of the payload reader, one of the bin reader, which the program writes again, and one of the bin writer
 with a room of one byte less than that list; its row extent is the greatest row that has a level. A plain block becomes the same three of the
-plain entry points. A scale becomes the same as a block. A slice becomes a record for each segment, and where it restarts one of byte alignment.
+plain entry points; and the list of every block, sampled or not, a record of the packer. A scale becomes the same as a block. A slice becomes a record for each segment, and where it restarts one of byte alignment.
 """
 import os
 import sys
@@ -74,6 +74,22 @@ def blocks(folder, every):
         yield f"# blocks of {what}: by the payload reader, by the bin reader, whose lists the writer makes again, and 12"
         for fields in records if every else sample(records):
             yield from block_records(fields)
+
+
+def packs(folder):
+    """Every list, packed to the bytes that are recorded. The place behind terminate is that of the last bit that is 1."""
+    for name, what in BLOCKS.items():
+        yield f"# lists of {what}, each packed to the recorded bytes, which are read again; 13 of those that are refused by 8"
+        for fields in (line.split(" ") for line in lines_of(folder, name) if line.startswith("B ")):
+            contexts, statistics, bins = fields[20:23]
+            lent = field("p", ",".join(fields[2:16]), USUAL) + f" ctx={contexts}" + field("stats", statistics, "00000000")
+            payload = fields[35]
+            if payload == "-":
+                yield f"pack list1={bins}{lent} => answer=13"
+            else:
+                number = int(payload, 16)
+                bits = 4 * len(payload) - ((number & -number).bit_length() - 1)
+                yield f"pack list1={bins}{lent} => answer=0 length={len(payload) // 2} bits={bits} payload={payload} changes={fields[33]}"
 
 
 def is_plain(fields):
@@ -156,7 +172,7 @@ def requests(folder):
 
 
 def main():
-    if len(sys.argv) not in (3, 4):
+    if len(sys.argv) < 3:
         sys.exit(__doc__)
     folder, name, more = sys.argv[1], sys.argv[2], sys.argv[3:]
     every = more == ["all"]
@@ -164,9 +180,9 @@ def main():
     if not every:
         kept = lines_of(name)
         kept = kept[: kept.index(MARK) + 1]
-    written = [*requests(folder), *tables(folder), *slices(folder, every), *scales(folder), *blocks(folder, every), *plain_blocks(folder, every)]
-    if more and not every:
-        written += ["# made blocks, half of them damaged, with the answers of the Rust or the refusals of document 01", *lines_of(more[0])]
+    written = [*requests(folder), *tables(folder), *slices(folder, every), *scales(folder), *blocks(folder, every), *plain_blocks(folder, every), *packs(folder)]
+    for name_of_more in more if not every else ():
+        written += lines_of(name_of_more)
     with open(name, "w", encoding="ascii") as lines:
         lines.write("\n".join([*kept, *written, *([""] if every else CUT)]))
     print(sum(not line.startswith("#") for line in written), "records")

@@ -199,6 +199,8 @@ struct Blocks {
     calls: BTreeMap<(&'static str, u32), u64>,
     past: u64,
     levels: u64,
+    /// Payloads and their bytes.
+    packed: (u64, u64),
 }
 
 impl Blocks {
@@ -290,6 +292,39 @@ impl Blocks {
     }
 
     /// A block written in a room, by ours and by the text.
+    /// A list packed from any contexts, as the encoder of 9.3.5 packs it, into a room around that length; the block is read back.
+    fn pack(&mut self, r: &mut Random, list: &[u8]) {
+        let mut contexts: [u8; CONTEXTS] = inputs::contexts(r)[..CONTEXTS].try_into().unwrap();
+        if r.chance(8) {
+            contexts[r.below(CONTEXTS as u64) as usize] = 128 + r.below(128) as u8;
+        }
+        let bad = contexts.iter().any(|&c| c > 127);
+        let read = read(list);
+        let (payload, after) = if bad || read.is_err() { (Vec::new(), contexts) } else { crate::pack::encoded(&contexts, list) };
+        let room = (payload.len() + 1).saturating_sub(r.below(3) as usize);
+        let mut lent = vec![HELD; room + 2];
+        let ours = pack_bins(&contexts, list, &mut lent[..room]);
+        let number = if bad { 3 } else if read.is_err() { 13 } else { 12 * (payload.len() > room) as u32 };
+        self.count("packed", number);
+        let left = if number == 0 { payload.len() } else { 0 };
+        let back = || {
+            let (mut handed, mut levels) = (contexts, [0; PLACES]);
+            let (_, state) = residual_block(&payload, bulmegart::start(&payload).unwrap(), &mut handed, &mut levels).unwrap();
+            let (bin, last) = bulmegart::decode_terminate(&payload, state).unwrap();
+            handed == after && Ok(levels) == read && bin && last.past == 0 && last.position.div_ceil(8) == payload.len()
+        };
+        if ours.map_err(|r| r.number()) != if number == 0 { Ok(left) } else { Err(number) }
+            || lent[..left] != payload[..left]
+            || lent[left..].iter().any(|&b| b != HELD)
+            || (number == 0 && !back())
+        {
+            println!("DIFFERENCE: H.264 packed {list:02x?} from {contexts:02x?}, room {room}: ours {ours:?} {lent:02x?}, wanted {number} {payload:02x?}");
+            std::process::exit(1);
+        }
+        self.packed.0 += (number == 0) as u64;
+        self.packed.1 += left as u64;
+    }
+
     fn write(&mut self, levels: &[i32], room: usize) {
         let mut lent = vec![HELD; room + 2];
         let ours = unsafe { bulmegart_h264_write_bins(levels.as_ptr(), levels.len(), lent.as_mut_ptr(), room) };
@@ -572,7 +607,10 @@ pub fn run(vectors: &str, r: &mut Random, runs: u64) {
         {
             b.write(&handed, r.below(list.len() as u64 + 2) as usize);
             let _ = b.list(&list, PLACES + r.below(3) as usize);
-            let _ = b.list(&damaged(r, &list), PLACES);
+            b.pack(r, &list);
+            let spoiled = damaged(r, &list);
+            let _ = b.list(&spoiled, PLACES);
+            b.pack(r, &spoiled);
             if r.chance(4) {
                 let _ = b.list(&list, r.below(PLACES as u64) as usize);
             }
@@ -595,5 +633,5 @@ pub fn run(vectors: &str, r: &mut Random, runs: u64) {
             b.pairs(&pairs, qp);
         }
     }
-    println!("H.264, calls by number: {:?}; levels read {}; past the end {}", b.calls, b.levels, b.past);
+    println!("H.264, calls by number: {:?}; levels read {}; past the end {}; payloads packed {} of {} bytes", b.calls, b.levels, b.past, b.packed.0, b.packed.1);
 }

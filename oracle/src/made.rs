@@ -2,7 +2,7 @@
 use crate::cabac::engine::tables;
 use crate::model::{Kind, Scans, Source, Walk, next_context, walk};
 use crate::random::Random;
-use bulmegart::{CONTEXTS, Params};
+use bulmegart::{ALIGNMENT_ENTRY, BYPASS_ENTRY, CONTEXTS, Params};
 
 /// Of 256, how often a bin is 1.
 #[derive(Clone, Copy, Debug)]
@@ -79,6 +79,22 @@ impl Encoder {
         } else {
             self.low -= 512;
             self.waiting += 1;
+        }
+    }
+
+    /// The entries of a list, whatever its syntax, with the contexts that they use up.
+    pub fn entries(&mut self, contexts: &mut [u8], list: &[u8]) {
+        for entry in list.chunks_exact(2).map(|e| u16::from_le_bytes([e[0], e[1]])) {
+            let bin = entry as u32 % 2;
+            if entry == ALIGNMENT_ENTRY {
+                self.range = 256;
+            } else if entry >= BYPASS_ENTRY {
+                self.bypass(bin);
+            } else {
+                let context = &mut contexts[entry as usize / 2];
+                self.decision(*context, bin);
+                *context = next_context(*context, bin);
+            }
         }
     }
 

@@ -78,6 +78,7 @@ fn main() {
         ["trays", vectors, rounds, seed] => tray::run(vectors, rounds.parse().unwrap(), seed.parse().unwrap()),
         ["tray-bench", rounds] => bench::trays(rounds.parse().unwrap()),
         ["pack", vectors, count, seed] => pack::run(vectors, count.parse().unwrap(), seed.parse().unwrap()),
+        ["packsample", vectors, seed] => pack::sample(vectors, seed.parse().unwrap()),
         ["packbench", vectors, rounds] => pack::bench(vectors, rounds.parse().unwrap()),
         ["swap", vectors, sequences, seed] => swap::run(vectors, sequences.parse().unwrap(), seed.parse().unwrap()),
         ["swapspeed", vectors, rounds] => swap::speed(vectors, rounds.parse().unwrap()),
@@ -89,7 +90,7 @@ fn main() {
         ["bench", vectors, rounds] => bench::run(vectors, rounds.parse().unwrap(), None),
         ["bench", vectors, rounds, side, row] => bench::run(vectors, rounds.parse().unwrap(), Some((side, row.parse().unwrap()))),
         _ => {
-            eprintln!("one of: compare VECTORS SHARE SEED, cases VECTORS, plain VECTORS SEED, trays VECTORS ROUNDS SEED, tray-bench ROUNDS, pack VECTORS COUNT SEED, packbench VECTORS ROUNDS,");
+            eprintln!("one of: compare VECTORS SHARE SEED, cases VECTORS, plain VECTORS SEED, trays VECTORS ROUNDS SEED, tray-bench ROUNDS, pack VECTORS COUNT SEED, packsample VECTORS SEED, packbench VECTORS ROUNDS,");
             eprintln!("kept ROUNDS, book BOOKS ROUNDS, h264 VECTORS RUNS SEED, swap VECTORS SEQUENCES SEED, swapspeed VECTORS ROUNDS, bench VECTORS ROUNDS [ours|rust ROW], sample SEED, frame VALUES QP LOG2 SEED (oracle/README.md)");
             std::process::exit(2);
         }

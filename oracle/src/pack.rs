@@ -9,6 +9,7 @@ use crate::model::{Kind, Scans, Source, walk};
 use crate::peer;
 use crate::random::Random;
 use crate::sample::hex as text;
+use crate::tray::area;
 use bulmegart::*;
 use std::hint::black_box;
 
@@ -152,11 +153,175 @@ fn chosen(count: u64, seed: u64) -> (u64, u64, u64) {
     (read, bytes, wrong)
 }
 
+/// The lists of a tray's blocks, with the payload that one encoder makes of all of them and what the walks found.
+struct Trayed {
+    params: Vec<Params>,
+    contexts: [u8; CONTEXTS],
+    statistics: [u8; STATISTICS],
+    list: Vec<u8>,
+    payload: Vec<u8>,
+    levels: Vec<i32>,
+    contexts_after: [u8; CONTEXTS],
+    statistics_after: [u8; STATISTICS],
+    /// The first block whose list the syntax refuses.
+    refused: Option<usize>,
+}
+
+/// A tray by chance: a few blocks of any kind, now and then very many small ones.
+fn tray_chosen(r: &mut Random, scans: &Scans) -> Trayed {
+    let many = r.chance(2);
+    let count = if many { r.below(257) } else { r.below(7) };
+    let mut params: Vec<Params> = (0..count).map(|_| params(r)).collect();
+    if many {
+        params.iter_mut().for_each(|p| p.log2 = 2);
+    }
+    let (contexts, statistics, chosen) = (contexts(r), statistics(r), style(r));
+    let (mut levels, mut after, mut refused) = (Vec::new(), statistics, None);
+    let mut l = Listing { chooser: Chooser { encoder: Encoder::new(), contexts, random: r, style: chosen, ones: 0 }, list: Vec::new() };
+    for (k, p) in params.iter().enumerate() {
+        let mut block = vec![0; 1024];
+        if walk(&mut l, p, scans, &mut after, &mut block).refusal.is_some() {
+            refused = refused.or(Some(k));
+        }
+        levels.extend(&block[..area(p)]);
+    }
+    let (list, contexts_after, payload) = (l.list, l.chooser.contexts, l.chooser.encoder.finish());
+    Trayed { params, contexts, statistics, list, payload, levels, contexts_after, statistics_after: after, refused }
+}
+
+fn records_of(params: &[Params]) -> Vec<Record> {
+    params.iter().map(|&p| p.into()).collect()
+}
+
+/// Whether a tray is packed as its walks say, into a room that is longer, as long, and shorter, and read back; damaged ones are 13.
+fn tray_right(r: &mut Random, t: &Trayed) -> bool {
+    let (records, length) = (records_of(&t.params), t.payload.len());
+    let pack = |list: &[u8], room: &mut [u8]| pack_tray(&t.contexts, &t.statistics, &records, list, room);
+    let mut room = vec![HELD; length + 2];
+    let ours = pack(&t.list, &mut room);
+    if let Some(k) = t.refused {
+        return ours == PackedTray { done: k, length: Err(Refusal::BadList) } && room.iter().all(|&b| b == HELD);
+    }
+    let mut just = vec![HELD; length];
+    let mut short = vec![HELD; length - 1];
+    let all = records.len();
+    let left = [&t.list[..], &[r.below(256) as u8]].concat();
+    let cut = t.list.len().saturating_sub(1 + r.below(2) as usize);
+    let (mut levels, mut found) = (vec![0; t.levels.len()], vec![TrayFound { skip: 0, rdpcm: 0, column: 0, row: 0, greatest: 0 }; all]);
+    let (mut contexts, mut statistics) = (t.contexts, t.statistics);
+    let tray = read_tray(&t.payload, start(&t.payload).unwrap(), &mut contexts, &mut statistics, &records, &mut levels, &mut found);
+    let last = decode_terminate(&t.payload, tray.state).unwrap();
+    ours == PackedTray { done: all, length: Ok(length) }
+        && room[..length] == t.payload[..]
+        && room[length..] == [HELD; 2]
+        && pack(&t.list, &mut just).length == Ok(length)
+        && just == t.payload
+        && pack(&t.list, &mut short) == PackedTray { done: all, length: Err(Refusal::ShortRoom) }
+        && pack(&left, &mut room) == PackedTray { done: all, length: Err(Refusal::BadList) }
+        && (t.list.is_empty() || pack(&t.list[..cut], &mut room) == PackedTray { done: all - 1, length: Err(Refusal::BadList) })
+        && (tray.refusal, tray.done) == (None, all)
+        && (levels == t.levels && contexts == t.contexts_after && statistics == t.statistics_after)
+        && (last.0, last.1.past, last.1.position.div_ceil(8)) == (true, 0, length)
+}
+
+/// Trays by chance: how many are wrong.
+fn trays(count: u64, seed: u64) -> u64 {
+    let (scans, mut r) = (Scans::new(), Random::new(seed));
+    let (mut read, mut blocks, mut bytes, mut wrong) = (0, 0, 0, 0);
+    for k in 0..count {
+        let t = tray_chosen(&mut r, &scans);
+        if t.refused.is_none() {
+            read += 1;
+            blocks += t.params.len();
+            bytes += t.payload.len();
+        }
+        if !tray_right(&mut r, &t) {
+            println!("DIFFERENCE: tray {k} of seed {seed}: {:?} list {}", t.params, text(&t.list));
+            wrong += 1;
+        }
+    }
+    println!("trays by chance: {count}, {read} of them read, of {blocks} blocks, and packed to {bytes} bytes, as one encoder of 9.3.5 packs them; {wrong} wrong");
+    wrong
+}
+
+/// A list packed by the encoder of 9.3.5, with the contexts behind it.
+pub fn encoded<const N: usize>(contexts: &[u8; N], list: &[u8]) -> (Vec<u8>, [u8; N]) {
+    let (mut encoder, mut after) = (Encoder::new(), *contexts);
+    encoder.entries(&mut after, list);
+    (encoder.finish(), after)
+}
+
+/// The place behind terminate: that of the last bit that is 1.
+fn bits(payload: &[u8]) -> usize {
+    8 * payload.len() - payload.last().unwrap().trailing_zeros() as usize
+}
+
+fn payload_text(payload: &[u8], before: &[u8], after: &[u8]) -> String {
+    format!("length={} bits={} payload={} changes={}", payload.len(), bits(payload), text(payload), changes(before, after))
+}
+
+fn record_text(p: &Params) -> String {
+    let flags = [p.hiding, p.skip_allowed, p.lossless, p.persistent, p.skip_context, p.explicit_rdpcm, p.implicit_rdpcm, p.inter, p.aligning, p.extended];
+    let flags: Vec<String> = flags.iter().map(|&f| (f as u32).to_string()).collect();
+    format!("{},{},{},{},{}", p.log2, p.luma as u32, p.scan, flags.join(","), p.depth)
+}
+
+/// Records of packscale and packtray for crates/cases/stdin: the recorded scales, recorded lists of true streams as trays, and trays by chance.
+pub fn sample(vectors: &str, seed: u64) {
+    println!("# recorded scales: each list packed as the encoder of 9.3.5 packs it, and 12");
+    for line in std::fs::read_to_string(format!("{vectors}/cross.txt")).unwrap().lines().filter(|l| l.starts_with("X ")) {
+        let f: Vec<&str> = line.split(' ').collect();
+        let contexts: [u8; CONTEXTS] = hex(f[7]).try_into().unwrap();
+        let (payload, after) = encoded(&contexts, &hex(f[8]));
+        let asked = format!("packscale component={} list={} ctx={}", f[2], f[8], f[7]);
+        println!("{asked} => answer=0 {}", payload_text(&payload, &contexts, &after));
+        println!("{asked} room={} => answer=12", payload.len() - 1);
+    }
+    println!("# lists of three to six blocks of a stream, one behind the other, as a tray; a byte of room less; and without their last entry");
+    let blocks: Vec<Both> = ["hevc.txt", "rext.txt"].iter().flat_map(|name| recorded(vectors, name)).collect();
+    // a tray's statistics are carried on: blocks that do not look at them
+    let blocks: Vec<&Both> = blocks.iter().filter(|x| !x.params.persistent && x.list.len() < 400).collect();
+    let mut r = Random::new(seed);
+    for _ in 0..40 {
+        let from = r.below(blocks.len() as u64 - 6) as usize;
+        let few = &blocks[from..from + 3 + r.below(4) as usize];
+        let list: Vec<u8> = few.iter().flat_map(|x| x.list.clone()).collect();
+        let contexts = few[0].contexts;
+        let (payload, after) = encoded(&contexts, &list);
+        let records: Vec<String> = few.iter().map(|x| record_text(&x.params)).collect();
+        if few.iter().map(|x| area(&x.params)).sum::<usize>() > 4864 {
+            continue;
+        }
+        let asked = |list: &[u8]| format!("packtray records={} list={} ctx={}", records.join(";"), text(list), text(&contexts));
+        let all = few.len();
+        println!("{} => answer=0 done={all} {} stats=00000000", asked(&list), payload_text(&payload, &contexts, &after));
+        println!("{} room={} => answer=12 done={all}", asked(&list), payload.len() - 1);
+        println!("{} => answer=13 done={}", asked(&list[..list.len() - 2]), all - 1);
+    }
+    println!("# trays by chance, with statistics carried on");
+    let scans = Scans::new();
+    let mut kept = 0;
+    while kept < 40 {
+        let t = tray_chosen(&mut r, &scans);
+        if t.levels.len() > 4864 || t.list.len() > 1500 || t.params.is_empty() {
+            continue;
+        }
+        kept += 1;
+        let records: Vec<String> = t.params.iter().map(record_text).collect();
+        print!("packtray records={} list={} ctx={} stats={} => ", records.join(";"), text(&t.list), text(&t.contexts), text(&t.statistics));
+        match t.refused {
+            Some(k) => println!("answer=13 done={k}"),
+            None => println!("answer=0 done={} {} stats={}", t.params.len(), payload_text(&t.payload, &t.contexts, &t.contexts_after), text(&t.statistics_after)),
+        }
+    }
+}
+
 pub fn run(vectors: &str, count: u64, seed: u64) {
     let (all, wrong) = real(vectors);
     println!("field 36: {all} real lists, {wrong} wrong");
     let (_, _, also) = chosen(count, seed);
-    if wrong > 0 || also > 0 {
+    let trayed = trays(count / 4, seed);
+    if wrong > 0 || also > 0 || trayed > 0 {
         std::process::exit(1);
     }
 }

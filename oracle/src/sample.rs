@@ -152,6 +152,7 @@ pub fn write(seed: u64) {
             kept.push(text);
         }
     }
+    println!("# made blocks, half of them damaged, with the answers of the Rust or the refusals of document 01");
     for text in kept {
         println!("{text}");
     }

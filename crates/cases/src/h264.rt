@@ -6,24 +6,24 @@
 //     h264init q pairs => answer ctx: pairs m:n, parted by commas
 //
 // At a refusal: answer memory. A list that is accepted must be the one that the bin writer makes of its block.
-use crate::answer;
-use crate::answer::NONE;
-use crate::blocks::all_levels;
-use crate::blocks::refused;
-use crate::engine;
-use crate::given;
-use crate::given::LIST;
-use crate::given::PLACES;
-use crate::given::Signed;
-use crate::lent::BLANK;
-use crate::lent::MARK;
-use crate::lent::first_of;
-use crate::lent::front;
-use crate::lent::room_of;
-use crate::record::value;
-use crate::writes::told;
 use bins::state::Engine;
 use bytes::scan::find;
+use case_blocks::blocks::all_levels;
+use case_blocks::blocks::refused;
+use case_blocks::engine;
+use case_blocks::writes::told;
+use case_text::answer;
+use case_text::answer::NONE;
+use case_text::given;
+use case_text::given::LIST;
+use case_text::given::PLACES;
+use case_text::given::Signed;
+use case_text::lent::BLANK;
+use case_text::lent::MARK;
+use case_text::lent::first_of;
+use case_text::lent::front;
+use case_text::lent::room_of;
+use case_text::record::value;
 use check::same;
 use h264_block::contexts::init_pairs;
 use h264_reader::entries::Read;

@@ -1,26 +1,26 @@
 // Which record has which keys, and is answered by which function. A kind that is added is a rule, a word and a line here, and a function.
-use crate::answer;
-use crate::answer::NONE;
-use crate::blocks;
-use crate::engine;
-use crate::given;
-use crate::given::Handed;
-use crate::given::LEVELS;
-use crate::given::LIST;
-use crate::given::PLACES;
 use crate::h264;
 use crate::packs;
-use crate::record::first;
-use crate::record::is_by;
-use crate::record::value;
-use crate::record::which;
 use crate::scales;
 use crate::slices;
 use crate::trays;
 use crate::values;
-use crate::writes;
 use bins::state::Engine;
 use cabac_engine::engine::start;
+use case_blocks::blocks;
+use case_blocks::engine;
+use case_blocks::writes;
+use case_text::answer;
+use case_text::answer::NONE;
+use case_text::given;
+use case_text::given::Handed;
+use case_text::given::LEVELS;
+use case_text::given::LIST;
+use case_text::given::PLACES;
+use case_text::record::first;
+use case_text::record::is_by;
+use case_text::record::value;
+use case_text::record::which;
 use check::same;
 use text::lines::part;
 use text_fields::fields::Octets;
@@ -57,6 +57,8 @@ plainlist list ?p ?stats ?places
 plainwrite levels ?skip ?rdpcm ?p ?stats ?room ?places
 pack list ?p ?ctx ?stats ?room
 pack list1 ?p ?ctx ?stats ?room
+packscale component list ?ctx ?room
+packtray records list ?ctx ?stats ?room
 h264list list ?places
 h264write levels ?places ?room
 h264init q pairs
@@ -146,7 +148,7 @@ fn of_payload(kind: usize, s: &[u8], bytes: &[u8], n: &[u32; 8], at: usize) -> u
     }
 }
 
-// By the kind's number among those without a state.
+// By the kind's number among those without a state: in two functions, since one of so many arms is dear to prove.
 fn of_other(kind: usize, s: &[u8], bytes: &[u8], n: &[u32; 8], at: usize) -> usize {
     match kind {
         0 => engine::ready(s, at, start(bytes)),
@@ -156,16 +158,20 @@ fn of_other(kind: usize, s: &[u8], bytes: &[u8], n: &[u32; 8], at: usize) -> usi
         4 => scales::write(s, n, at),
         5 => values::contexts(s, bytes, (n[given::QUANTISER] % 256) as u8, at),
         6 => blocks::list(s, true, bytes, given::size(n[given::LENT]), at),
+        _ => of_later(kind, s, bytes, n, at),
+    }
+}
+
+fn of_later(kind: usize, s: &[u8], bytes: &[u8], n: &[u32; 8], at: usize) -> usize {
+    let room = given::size(n[given::ROOM]);
+    match kind {
         7 => writes::write(s, true, n, at),
-        8 => packs::pack(s, bytes, given::size(n[given::ROOM]), at),
+        8 => packs::pack(s, bytes, room, at),
         9 => h264::list(s, bytes, given::size(n[given::LENT]), at),
-        10 => h264::write(
-            s,
-            given::size(n[given::ROOM]),
-            given::size(n[given::LENT]),
-            at,
-        ),
+        10 => h264::write(s, room, given::size(n[given::LENT]), at),
         11 => h264::contexts(s, (n[given::QUANTISER] % 256) as u8, at),
+        12 => packs::scale(s, bytes, n[given::COMPONENT], room, at),
+        13 => packs::tray(s, bytes, room, at),
         _ => values::value(s, (n[given::VALUE] % 256) as u8, n[given::QUANTISER], at),
     }
 }
@@ -191,7 +197,7 @@ fn answered(s: &[u8], bytes: &[u8], at: usize) -> usize {
         return of_payload(kind, s, bytes, &n, at);
     }
     let kind = which(
-        b"start list write crosslist crosswrite init plainlist plainwrite pack h264list h264write h264init initvalue",
+        b"start list write crosslist crosswrite init plainlist plainwrite pack h264list h264write h264init packscale packtray initvalue",
         first(s),
     );
     of_other(kind, s, bytes, &n, at)

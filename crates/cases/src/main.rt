@@ -16,24 +16,18 @@
 // record that does not agree the line, what was answered and what is wanted. A line that begins with ! is a record with a wrong result, to show
 // that it is told apart. Whatever else is no record: a key that is unknown, missing, twice or without a value, a value that its key
 // cannot have, a line without the arrow, a result or a line feed, one of more than 262,143 letters, a payload or list of more than 73,728 bytes.
-mod answer; // answer.rt: the text of an answer, held against the wanted text
-mod blocks; // blocks.rt: the block readers
-mod engine; // engine.rt: the engine's entry points
-mod given; // given.rt: what a record hands in
 mod h264; // h264.rt: the block of H.264
 mod kinds; // kinds.rt: which record has which keys, and is answered by which function
-mod lent; // lent.rt: memory that is lent to a call
 mod packs; // packs.rt: the arithmetic writer
-mod record; // record.rt: the fields of a record
 mod scales; // scales.rt: cross-component scales
 mod slices; // slices.rt: whole slices, bin by bin
 mod trays; // trays.rt: trays
 mod values; // values.rt: initialisation
-mod writes; // writes.rt: the bin writer
 
-use crate::answer::NONE;
-use crate::answer::SHOWN;
-use crate::given::LIST;
+use case_text::answer::NONE;
+use case_text::answer::SHOWN;
+use case_text::given::LIST;
+use case_text::record;
 use text::lines;
 use text::lines::Line;
 use text::lines::Window;

@@ -3,19 +3,19 @@
 //     cross component payload [state ctx] => answer scale state changes
 //     crosslist component list => answer scale
 //     crosswrite component scale [room] => answer length list
-use crate::answer;
-use crate::answer::NONE;
-use crate::answer::same_contexts;
-use crate::engine;
-use crate::given;
-use crate::given::LIST;
-use crate::given::Signed;
-use crate::lent::BLANK;
-use crate::lent::room_of;
-use crate::record::value;
-use crate::writes;
 use bins::state::Engine;
 use bins::tags::CONTEXTS;
+use case_blocks::engine;
+use case_blocks::writes;
+use case_text::answer;
+use case_text::answer::NONE;
+use case_text::answer::same_contexts;
+use case_text::given;
+use case_text::given::LIST;
+use case_text::given::Signed;
+use case_text::lent::BLANK;
+use case_text::lent::room_of;
+use case_text::record::value;
 use hevc_scale::entries::Read;
 use hevc_scale::entries::ReadList;
 use hevc_scale::entries::read_scale;

@@ -4,20 +4,20 @@
 //
 // It begins by a start on the payload, or by a restart from a state. Contexts are 199. An operation is two bytes, the high one first:
 // 2·context + bin, or fffe, ffff for bypass, or fffc, fffd for terminate. The bins are counted up to one that is another, or is refused.
-use crate::answer;
-use crate::answer::NONE;
-use crate::engine;
-use crate::given;
-use crate::record::value;
 use bins::state::Engine;
 use cabac::engine::Bins;
 use cabac::engine::Decision;
 use cabac::engine::State;
-use cabac_engine::engine::decode_bin;
-use cabac_engine::engine::decode_bypass;
-use cabac_engine::engine::decode_bypass_bits;
-use cabac_engine::engine::decode_terminate;
+use cabac_bins::decode::decode_bin;
+use cabac_bins::decode::decode_bypass;
+use cabac_bins::decode::decode_bypass_bits;
+use cabac_bins::decode::decode_terminate;
 use cabac_engine::engine::restart;
+use case_blocks::engine;
+use case_text::answer;
+use case_text::answer::NONE;
+use case_text::given;
+use case_text::record::value;
 use text::lines::part;
 use text_fields::fields::Octets;
 use text_fields::fields::hex_bytes;

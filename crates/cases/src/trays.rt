@@ -5,23 +5,23 @@
 // Records are parameters, parted by ; and K*p for K of them, or a dash for none: 300 at most, of which no number is above 255. 4,864 places can
 // be lent, and are where `places` is not given. Of each block done, found has skip:rdpcm:column:row:greatest, and parts its levels; then stands
 // zero for the part of a refused block, and untouched for all parts behind.
-use crate::answer;
-use crate::answer::NONE;
-use crate::answer::OTHER;
-use crate::blocks::area;
-use crate::blocks::direction;
-use crate::blocks::levels;
-use crate::engine;
-use crate::given;
-use crate::given::LEVELS;
-use crate::given::Word;
-use crate::lent::MARK;
-use crate::lent::front;
-use crate::lent::holds;
-use crate::record::value;
 use bins::state::Engine;
 use bins::tags::CONTEXTS;
 use bytes::scan::find;
+use case_blocks::blocks::area;
+use case_blocks::blocks::direction;
+use case_blocks::blocks::levels;
+use case_blocks::engine;
+use case_text::answer;
+use case_text::answer::NONE;
+use case_text::answer::OTHER;
+use case_text::given;
+use case_text::given::LEVELS;
+use case_text::given::Word;
+use case_text::lent::MARK;
+use case_text::lent::front;
+use case_text::lent::holds;
+use case_text::record::value;
 use check::same;
 use hevc_tray::entries::Tray;
 use hevc_tray_reader::entries::read_tray;
@@ -114,14 +114,14 @@ fn records(s: &[u8], rows: &mut [[u8; 14]; ROWS]) -> usize {
     NO_RECORDS
 }
 
-fn records_or_none(s: &[u8], rows: &mut [[u8; 14]; ROWS]) -> usize {
+pub fn records_or_none(s: &[u8], rows: &mut [[u8; 14]; ROWS]) -> usize {
     if same(s, b"-") {
         return 0;
     }
     records(s, rows)
 }
 
-fn first_rows(rows: &[[u8; 14]], n: usize) -> &[[u8; 14]] {
+pub fn first_rows(rows: &[[u8; 14]], n: usize) -> &[[u8; 14]] {
     if n < rows.len() {
         return &rows[..n];
     }

@@ -2,10 +2,10 @@
 //
 //     init values q => answer ctx
 //     initvalue value [q] => context: without a quantiser what each of 0 to 255 gives
-use crate::answer;
 use bins::tags::CONTEXTS;
 use cabac_init::contexts::init;
 use cabac_init::contexts::init_contexts;
+use case_text::answer;
 use check::same;
 
 // Contexts and statistics hold something else before: an initialisation sets all of them, a refusal none.

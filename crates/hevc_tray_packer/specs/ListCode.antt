@@ -9,6 +9,7 @@ use lib.IntN.{ℤ, pos}
 use lib.ListN.{length, getD, drop, take, replicate, drop-of-length-le, length-replicate}
 use lib.Seq.{drop-cons}
 use Rattle.bins.specs.declared.state.Interval.{Interval}
+use Rattle.bins.specs.declared.state.Refusal.{Refusal}
 use Rattle.bins.specs.Interval.{placeOf}
 use Rattle.bins.specs.Syn.{Out, run, byList}
 use Rattle.bins.specs.Sources.{Cursor, cursor}
@@ -58,10 +59,10 @@ module _ (p : Params) (l : List ℕ) (x : Interval) (cs stats : List ℕ) (r : B
       let k = reads-on true l (residual p stats) x cs (blockOf f levels stats′) y cs′ w g .0 in
       (blockOf f levels stats′, listed-is ∙ ap (λ (o : Out Cursor Block). mapOut (left l) o) w, refl, small, k)
 
-  pub list-no : (n : ℕ) → r ≡ blocked.Refused n → (st : List ℕ) → SaysList p l (placeOf x) stats listed.Refused st
+  pub list-no : (n : Refusal) → r ≡ blocked.Refused n → (st : List ℕ) → SaysList p l (placeOf x) stats listed.Refused st
   list-no n q st =
       let w = subst (λ (z : Blocked). Says z) q s in
-      (n, left l (w .0), listed-is ∙ ap (λ (o : Out Cursor Block). mapOut (left l) o) (w .1))
+      (n .number, left l (cursor (n .at) (w .0)), listed-is ∙ ap (λ (o : Out Cursor Block). mapOut (left l) o) (w .1))
 
 -- the block's own places: the first n of 1,024
 module _ (p : Params) (h : 0 ≡ parameterRefusal p places) (n : ℕ) (q : n ≡ area p) where

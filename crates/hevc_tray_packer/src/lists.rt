@@ -1,5 +1,5 @@
 // The lists of a tray, one after the other in one slice. Each ends where its block does: no lengths are handed in, so none can be wrong.
-use bins::places::BitPlace;
+use bins::places::SourcePlace;
 use bins::state::Interval;
 use bins::tags::CONTEXTS;
 use hevc_block::block::Blocked;
@@ -43,7 +43,7 @@ fn one_list(table: &[u32; 512], stats: &mut [u8; 4], list: &[u8], p: Params, at:
     let front = Interval {
         range: 256,
         offset: 0,
-        position: BitPlace(at),
+        position: SourcePlace(at),
     };
     let r = read_block(
         true,

@@ -1,6 +1,6 @@
-pub mod Ink
-pub mod InkLaws
-pub mod WritLaws
-pub mod StepCode
+pub mod Register
+pub mod RoomLaws
+pub mod RegisterLaws
+pub mod StandLaws
 pub mod WalkLaws
 pub mod IntoCode

@@ -4,27 +4,20 @@ use mathlib.Core.Path.{_≡_, refl, sym, ap, ap₂, subst, _∙_}
 use mathlib.Core.Bool.{Bool, true, false, cond}
 use mathlib.Core.List.{List, [], _∷_, _++_}
 use native.Mathlib.Omega.{arith}
-use native.Mathlib.Numerals.{add-one}
 use lib.ListN.{length, getD, set, take, drop, length-take, length-set, List·getD-eq-default}
 use lib.Seq.{take-suc, take-all, set-out}
 use lib.Dec.{ltb, eqb}
-use borrow.Author.Tests.{lt-ltb, le-ltb, eq-eqb, ne-eqb}
+use borrow.Author.Tests.{lt-ltb, le-ltb, ne-eqb}
 use Rattle.tables.specs.Bounds.{mps-small, lps-small}
 use Rattle.bins.specs.Tags.{contextCount, alignTag}
 use Rattle.bins.specs.Readers.{odd}
 use Rattle.bins.specs.CodeLaws.{Packed, packed-set}
-use Rattle.packing.specs.Pack.{Enc, begun, Entry, ofContext, ofBypass, ofAlign, kindOf, entriesOf, Writing, writing, favoured, ctxAfter, packedBin, packedEntry, packed, filled, flushed, payloadOf, packedFrom}
-use Rattle.packing.specs.FollowLaws.{Wide}
-use Rattle.packing.specs.TreeLaws.{packed-wide}
+use Rattle.packing.specs.Pack.{Enc, begun, encoded, bypassEnc, alignEnc, Entry, ofContext, ofBypass, ofAlign, kindOf, entriesOf, Writing, writing, favoured, ctxAfter, packedBin, packedEntry, packed, payloadOf, packedFrom}
 use Rattle.packing.specs.PayloadLaws.{begun-wide, payload-length}
 use Rattle.packing.specs.Packs.{packed-n, entries-length, entriesMost}
-use Rattle.packing.specs.PutBits.{Bits, noBits, wrote, Steps, Stepping, stepsBegun, stepping, at, repeated, stepDecision, stepBypass, stepFlush, stepBin, stepEntry, stepAll}
-use Rattle.packing.specs.PutBitsLaws.{window, begun-same, SameAt, all-same, put-bits}
-use Rattle.packing.specs.LikeLaws.{Like, LikeAt, like-all, like-flush}
-use Rattle.packer.specs.declared.coder.Pen.{Pen}
 use Rattle.packer.specs.declared.coder.Coder.{Coder}
-use Rattle.packer.specs.Ink.{Sheet, sheet, inked, Takes, Holds, stepsOf}
-use Rattle.packer.specs.WritLaws.{Writ, writ-begin, writ-keeps, writ-takes, Done, writ-done}
+use Rattle.packer.specs.Register.{registerOf, Steady, Grown, PutOut, lastOf}
+use Rattle.packer.specs.StandLaws.{Stands, coderBegun, stands-begin, stands-wide, stands-few, stands-contexts, stands-more, stands-out, Closed, stands-flush}
 
 -- ---- contexts stay packed
 after-small : (v : Bool) (ctx : ℕ) → ctx < 128 → ctxAfter v ctx < 128
@@ -55,16 +48,6 @@ unfolding packed
 all-sized [] w = refl
 all-sized (x ∷ l) w = all-sized l (packedEntry x w) ∙ entry-sized x w
 
--- ---- the steps of a list and then another
-step-append : {W : Type 0} (f : ℕ → W → W) (l m : List Entry) (s : Stepping W) → stepAll f (l ++ m) s ≡ stepAll f m (stepAll f l s)
-unfolding stepAll
-step-append f [] m s = refl
-step-append f (x ∷ l) m s = step-append f l m (stepEntry f x s)
-
-step-one : {W : Type 0} (f : ℕ → W → W) (x : Entry) (s : Stepping W) → stepAll f (x ∷ []) s ≡ stepEntry f x s
-unfolding stepAll
-step-one f x s = refl
-
 -- ---- one entry, as the code tells it
 module _ (x : ℕ) where
   pub kind-context : x < 2 * contextCount → kindOf x ≡ ofContext (x / 2) (odd x)
@@ -79,111 +62,34 @@ module _ (x : ℕ) where
   unfolding kindOf
   kind-bypass h n = rw (le-ltb x (2 * contextCount) h, ne-eqb x alignTag n)
 
-module _ (room room′ cs : List ℕ) (c r : Coder) (x : ℕ) where
+module _ (cs : List ℕ) (s r : Enc) (x : ℕ) where
   pub entry-context : (cs′ : List ℕ) (y : ℕ) → x < 2 * contextCount
-      → stepsOf room′ r ≡ stepDecision inked (favoured (getD cs (x / 2) 0) (eqb (x % 2) 1)) (getD cs (x / 2) 0) (stepsOf room c)
+      → r ≡ encoded (favoured (getD cs (x / 2) 0) (eqb (x % 2) 1)) (getD cs (x / 2) 0) s
       → y ≡ ctxAfter (favoured (getD cs (x / 2) 0) (eqb (x % 2) 1)) (getD cs (x / 2) 0) → cs′ ≡ set cs (x / 2) y
-      → stepping (stepsOf room′ r) cs′ ≡ stepEntry inked (kindOf x) (stepping (stepsOf room c) cs)
+      → writing r cs′ ≡ packedEntry (kindOf x) (writing s cs)
   entry-context cs′ y h p q e =
-      ap₂ (λ (s : Steps Sheet) (l : List ℕ). stepping s l) p (e ∙ ap (set cs (x / 2)) q)
-      ∙ sym (ap (λ k. stepEntry inked k (stepping (stepsOf room c) cs)) (kind-context x h) ∙ unfold stepEntry stepBin in refl)
+      ap₂ (λ (u : Enc) (l : List ℕ). writing u l) p (e ∙ ap (set cs (x / 2)) q)
+      ∙ sym (ap (λ k. packedEntry k (writing s cs)) (kind-context x h) ∙ unfold packedEntry packedBin in refl)
 
   -- a context that is not lent is 0
-  pub entry-none : x < 2 * contextCount → length cs ≤ x / 2 → stepsOf room′ r ≡ stepDecision inked (favoured 0 (eqb (x % 2) 1)) 0 (stepsOf room c)
-      → stepping (stepsOf room′ r) cs ≡ stepEntry inked (kindOf x) (stepping (stepsOf room c) cs)
+  pub entry-none : x < 2 * contextCount → length cs ≤ x / 2 → r ≡ encoded (favoured 0 (eqb (x % 2) 1)) 0 s → writing r cs ≡ packedEntry (kindOf x) (writing s cs)
   entry-none h k p =
       let z : getD cs (x / 2) 0 ≡ 0 = List·getD-eq-default cs 0 k in
-      entry-context cs _ h (p ∙ ap (λ v. stepDecision inked (favoured v (eqb (x % 2) 1)) v (stepsOf room c)) (sym z)) refl (sym (set-out cs (x / 2) _ k))
+      entry-context cs _ h (p ∙ ap (λ v. encoded (favoured v (eqb (x % 2) 1)) v s) (sym z)) refl (sym (set-out cs (x / 2) _ k))
 
-  pub entry-bypass : 2 * contextCount ≤ x → (x ≡ alignTag → ⊥) → stepsOf room′ r ≡ stepBypass inked (eqb (x % 2) 1) (stepsOf room c)
-      → stepping (stepsOf room′ r) cs ≡ stepEntry inked (kindOf x) (stepping (stepsOf room c) cs)
+  pub entry-bypass : 2 * contextCount ≤ x → (x ≡ alignTag → ⊥) → r ≡ bypassEnc (eqb (x % 2) 1) s → writing r cs ≡ packedEntry (kindOf x) (writing s cs)
   entry-bypass h n p =
-      ap (λ (s : Steps Sheet). stepping s cs) p
-      ∙ sym (ap (λ k. stepEntry inked k (stepping (stepsOf room c) cs)) (kind-bypass x h n) ∙ unfold stepEntry in refl)
+      ap (λ (u : Enc). writing u cs) p ∙ sym (ap (λ k. packedEntry k (writing s cs)) (kind-bypass x h n) ∙ unfold packedEntry in refl)
 
-  pub entry-align : x ≡ alignTag → r ≡ record { low = c .low; range = 256; first = c .first; outstanding = c .outstanding; pen = c .pen }
-      → stepping (stepsOf room r) cs ≡ stepEntry inked (kindOf x) (stepping (stepsOf room c) cs)
+  pub entry-align : x ≡ alignTag → r ≡ alignEnc s → writing r cs ≡ packedEntry (kindOf x) (writing s cs)
   entry-align h p =
-      ap (λ (z : Coder). stepping (stepsOf room z) cs) p
-      ∙ sym (ap (λ k. stepEntry inked k (stepping (stepsOf room c) cs)) (kind-align x h) ∙ unfold stepEntry in refl)
+      ap (λ (u : Enc). writing u cs) p ∙ sym (ap (λ k. packedEntry k (writing s cs)) (kind-align x h) ∙ unfold packedEntry in refl)
 
--- ---- behind a list l, from a lent room o and contexts cs
-abbrev pub penBegun : Bool → Pen
-penBegun wr = record { at = 0; byte = 0; fill = 0; writing = wr }
-
-abbrev pub coderBegun : Bool → Coder
-coderBegun wr = record { low = 0; range = 510; first = true; outstanding = 0; pen = penBegun wr }
-
-abbrev pub Behind : List ℕ → List ℕ → Bool → List Entry → List ℕ → Coder → List ℕ → Type 0
-Behind o cs wr l room c contexts = stepping (stepsOf room c) contexts ≡ stepAll inked l (stepping (stepsOf o (coderBegun wr)) cs)
-
--- what the interval says of it
-abbrev written : List ℕ → List Entry → Writing
-written cs l = packed l (writing begun cs)
-
--- what holds there
-pub record Ready (o cs : List ℕ) (wr : Bool) (l : List Entry) (room : List ℕ) (c : Coder) (contexts : List ℕ) : Type 0 where
-  pub holds : Holds 11 c
-  pub least : 256 ≤ c .range
-  pub most : c .range ≤ 510
-  pub packs : Packed contexts
-  pub same : contexts ≡ written cs l .contexts
-  pub long : length room ≡ length o
-
-like-begun : (o cs : List ℕ) (wr : Bool) → LikeAt (Writ o wr) (stepping (stepsOf o (coderBegun wr)) cs) (stepping (stepsBegun noBits) cs)
-like-begun o cs wr = record { steps = record { low = refl; range = refl; first = refl; outstanding = refl; out = writ-begin o wr }; contexts = refl }
-
-module _ (o cs : List ℕ) (wr : Bool) (l : List Entry) (few : length l ≤ entriesMost) where
-  like : LikeAt (Writ o wr) (stepAll inked l (stepping (stepsOf o (coderBegun wr)) cs)) (stepAll wrote l (stepping (stepsBegun noBits) cs))
-  like = like-all (Writ o wr) inked wrote (writ-keeps o wr) l _ _ (like-begun o cs wr)
-
-  same : SameAt (stepAll wrote l (stepping (stepsBegun noBits) cs)) (written cs l)
-  same = all-same l (stepping (stepsBegun noBits) cs) (writing begun cs) begun-wide (record { steps = begun-same; contexts = refl })
-
-  short : written cs l .enc .n ≤ 134217728
-  short = omega (arith, packed-n l (writing begun cs) begun-wide)
-
-  ready-at : (s : Stepping Sheet) → LikeAt (Writ o wr) s (stepAll wrote l (stepping (stepsBegun noBits) cs)) → Packed cs
-      → (c : Coder) (room : List ℕ) → stepsOf room c ≡ s .steps → Ready o cs wr l room c (s .contexts)
-  ready-at s k p c room q =
-      let m = same in
-      let w = packed-wide l (writing begun cs) begun-wide in
-      let n = short in
-      let a : Like (Writ o wr) (stepsOf room c) (stepAll wrote l (stepping (stepsBegun noBits) cs) .steps) = subst (λ (z : Steps Sheet). Like (Writ o wr) z (stepAll wrote l (stepping (stepsBegun noBits) cs) .steps)) (sym q) (k .steps) in
-      let g : c .range ≡ written cs l .enc .range = a .range ∙ m .steps .wide in
-      let e : s .contexts ≡ written cs l .contexts = k .contexts ∙ m .contexts in
-      record {
-        holds = record {
-          takes = writ-takes o wr (sheet room (c .pen)) (stepAll wrote l (stepping (stepsBegun noBits) cs) .steps .out) (11 + c .outstanding) (a .out) (omega (arith, m .steps .many, a .outstanding));
-          ten = omega (arith, m .steps .ten, a .low, a .range);
-          some = omega (arith, m .steps .some);
-        };
-        least = omega (arith, w .least);
-        most = omega (arith, w .most);
-        packs = subst Packed (sym e) (all-packed l (writing begun cs) p);
-        same = e;
-        long = a .out .long;
-      }
-
-  pub ready : Packed cs → (room : List ℕ) (c : Coder) (contexts : List ℕ) → Behind o cs wr l room c contexts → Ready o cs wr l room c contexts
-  ready p room c contexts q =
-      subst (λ (z : List ℕ). Ready o cs wr l room c z) (sym (ap (λ (z : Stepping Sheet). z .contexts) q))
-      (ready-at (stepAll inked l (stepping (stepsOf o (coderBegun wr)) cs)) like p c room (ap (λ (z : Stepping Sheet). z .steps) q))
-
-  -- ---- the flush, and the last byte
-  flushed-writ : (room : List ℕ) (c : Coder) (contexts room′ : List ℕ) (pen : Pen) → Behind o cs wr l room c contexts
-      → sheet room′ pen ≡ stepFlush inked (stepsOf room c)
-      → Writ o wr (sheet room′ pen) (record { value = flushed (written cs l .enc); count = written cs l .enc .n })
-  flushed-writ room c contexts room′ pen q e =
-      let f = like-flush (Writ o wr) inked wrote (writ-keeps o wr) _ _ (like .steps) in
-      let g : sheet room′ pen ≡ stepFlush inked (stepAll inked l (stepping (stepsOf o (coderBegun wr)) cs) .steps) = e ∙ ap (λ (z : Stepping Sheet). stepFlush inked (z .steps)) q in
-      subst (λ (b : Bits). Writ o wr (sheet room′ pen) b) (put-bits cs l .0)
-      (subst (λ (s : Sheet). Writ o wr s (stepFlush wrote (stepAll wrote l (stepping (stepsBegun noBits) cs) .steps))) (sym g) f)
-
-  pub flushed-takes : (room : List ℕ) (c : Coder) (contexts room′ : List ℕ) (pen : Pen) → Behind o cs wr l room c contexts
-      → sheet room′ pen ≡ stepFlush inked (stepsOf room c) → Takes 8 pen
-  flushed-takes room c contexts room′ pen q e =
-      writ-takes o wr (sheet room′ pen) _ 8 (flushed-writ room c contexts room′ pen q e) (omega (arith, short))
+-- ---- a list and then one entry
+packed-more : (l : List Entry) (x : Entry) (w : Writing) → packed (l ++ (x ∷ [])) w ≡ packedEntry x (packed l w)
+unfolding packed
+packed-more [] x w = refl
+packed-more (y ∷ l) x w = packed-more l x (packedEntry y w)
 
 -- what a list's bytes are packed to, r being the length that is told, room and contexts those behind
 pub record Laid (o cs : List ℕ) (wr : Bool) (bins : List ℕ) (r : ℕ) (room contexts : List ℕ) : Type 0 where
@@ -193,32 +99,6 @@ pub record Laid (o cs : List ℕ) (wr : Bool) (bins : List ℕ) (r : ℕ) (room 
   pub long : length room ≡ length o
   pub ink : wr ≡ true → r ≤ length o → room ≡ payloadOf (packedFrom cs bins .enc) ++ drop r o
   pub dry : wr ≡ false → room ≡ o
-
-entries-few : (bins : List ℕ) → length bins ≤ 2 * entriesMost + 1 → length (entriesOf bins) ≤ entriesMost
-entries-few bins h = omega (arith, entries-length bins)
-
-pub laid : (o cs : List ℕ) (wr : Bool) (bins : List ℕ) → length bins ≤ 2 * entriesMost + 1 → Packed cs → (room : List ℕ) (c : Coder) (contexts room′ : List ℕ) (pen : Pen) (room″ : List ℕ) (z : Pen)
-    → Behind o cs wr (entriesOf bins) room c contexts
-    → sheet room′ pen ≡ stepFlush inked (stepsOf room c) → sheet room″ z ≡ repeated inked ((8 - pen .fill) % 8) 0 (sheet room′ pen)
-    → Laid o cs wr bins (z .at) room″ contexts
-laid o cs wr bins few p room c contexts room′ pen room″ z q e f =
-    let s = packedFrom cs bins .enc in
-    let w = flushed-writ o cs wr (entriesOf bins) (entries-few bins few) room c contexts room′ pen q e in
-    let d : Done o wr (s .n) (flushed s) (sheet room″ z) =
-    subst (Done o wr (s .n) (flushed s)) (sym f) (writ-done o wr (s .n) (flushed s) (sheet room′ pen) ((8 - pen .fill) % 8) w refl) in
-    let t : z .at ≡ length (payloadOf s) = d .at ∙ sym (payload-length s) in
-    let moved : contexts ≡ packedFrom cs bins .contexts = ready o cs wr (entriesOf bins) (entries-few bins few) p room c contexts q .same in
-    record {
-      told = t;
-      moved = moved;
-      sized = ap length moved ∙ all-sized (entriesOf bins) (writing begun cs);
-      long = d .long;
-      ink = λ x y. d .ink x (omega (arith, d .at)) ∙ ap₂ (λ a b. a ++ drop b o) (whole s) (sym (d .at));
-      dry = d .dry;
-    }
-  where
-    whole : (s : Enc) → filled (s .n) (flushed s) ≡ payloadOf s
-    whole s = unfold payloadOf in refl
 
 -- ---- an entry by its place among the bytes
 pub entry-at : (bins : List ℕ) (k : ℕ) → 2 * k + 1 < length bins → getD (entriesOf bins) k ofAlign ≡ kindOf (getD bins (2 * k) 0 + 256 * getD bins (2 * k + 1) 0)
@@ -231,43 +111,86 @@ entry-at (x ∷ y ∷ l) (suc k) h =
     let b : 2 * suc k + 1 ≡ suc (suc (2 * k + 1)) = omega arith in
     entry-at l k (omega arith) ∙ sym (ap₂ (λ i j. kindOf (getD (x ∷ y ∷ l) i 0 + 256 * getD (x ∷ y ∷ l) j 0)) a b)
 
--- ---- the loop: the entries of the first i bytes are written
+-- ---- the loop: the entries of the first i bytes are written, from a lent room o and contexts cs
+abbrev written : List ℕ → List ℕ → ℕ → Writing
+written cs bins j = packed (take j (entriesOf bins)) (writing begun cs)
+
 pub record Written (o cs : List ℕ) (wr : Bool) (bins : List ℕ) (i : ℕ) (room : List ℕ) (c : Coder) (contexts : List ℕ) : Type 0 where
   pub done : ℕ
   pub twice : i ≡ 2 * done
   pub few : i ≤ length bins
-  pub state : Behind o cs wr (take done (entriesOf bins)) room c contexts
+  pub stands : Stands o wr room c (written cs bins done .enc)
+  pub bits : c .bits ≤ 16
+  pub same : contexts ≡ written cs bins done .contexts
 
 module _ (o cs : List ℕ) (wr : Bool) (bins : List ℕ) (p : Packed cs) (short : length bins ≤ 2 * entriesMost + 1) where
-  pub written-begin : Written o cs wr bins 0 o (coderBegun wr) cs
-  written-begin = record { done = 0; twice = refl; few = omega arith; state = unfold stepAll in refl }
+  pub written-begin : Written o cs wr bins 0 o coderBegun cs
+  written-begin = record { done = 0; twice = refl; few = omega arith; stands = unfold packed in stands-begin o wr; bits = omega arith; same = unfold packed in refl }
 
-  pub written-ready : (i : ℕ) (room : List ℕ) (c : Coder) (contexts : List ℕ) (h : Written o cs wr bins i room c contexts)
-      → Ready o cs wr (take (h .done) (entriesOf bins)) room c contexts
-  written-ready i room c contexts h = ready o cs wr (take (h .done) (entriesOf bins)) (simp length-take (omega (arith, h .twice, h .few))) p room c contexts (h .state)
+  prefix-short : (j : ℕ) → 2 * j ≤ length bins → written cs bins j .enc .n ≤ 134217728
+  prefix-short j h =
+      let l : length (take j (entriesOf bins)) ≤ entriesMost = simp length-take (omega arith) in
+      omega (arith, packed-n (take j (entriesOf bins)) (writing begun cs) begun-wide)
 
-  pub written-more : (i : ℕ) (room room′ : List ℕ) (c r : Coder) (contexts contexts′ : List ℕ) (x : ℕ) → Written o cs wr bins i room c contexts → i + 1 < length bins
-      → x ≡ getD bins i 0 + 256 * getD bins (i + 1) 0 → stepping (stepsOf room′ r) contexts′ ≡ stepEntry inked (kindOf x) (stepping (stepsOf room c) contexts)
-      → Written o cs wr bins (i + 2) room′ r contexts′
-  written-more i room room′ c r contexts contexts′ x h k e q =
-      let es = entriesOf bins in
-      let j = h .done in
-      let at : getD es j ofAlign ≡ kindOf x =
-      entry-at bins j (omega (arith, h .twice)) ∙ ap (λ n. kindOf (getD bins n 0 + 256 * getD bins (n + 1) 0)) (sym (h .twice)) ∙ ap kindOf (sym e) in
-      let t : take (suc j) es ≡ take j es ++ (kindOf x ∷ []) =
-      take-suc es j ofAlign (omega (arith, entries-length bins, h .twice)) ∙ ap (λ y. take j es ++ (y ∷ [])) at in
+  pub written-steady : (i : ℕ) (room : List ℕ) (c : Coder) (contexts : List ℕ) → Written o cs wr bins i room c contexts → Steady c × Packed contexts
+  written-steady i room c contexts h = (
+    record {
+      wide = h .stands .wide;
+      nine = h .stands .nine;
+      few = h .bits;
+      short = omega (arith, prefix-short (h .done) (omega (arith, h .twice, h .few)), h .stands .above .place);
+    },
+    subst Packed (sym (h .same)) (all-packed (take (h .done) (entriesOf bins)) (writing begun cs) p),
+  )
+
+  -- one entry more: d is the coder behind it, before a byte goes to the room
+  module _ (i : ℕ) (room : List ℕ) (c d : Coder) (contexts contexts′ : List ℕ) (x : ℕ) (h : Written o cs wr bins i room c contexts) (k : i + 1 < length bins)
+      (q : writing (registerOf d) contexts′ ≡ packedEntry (kindOf x) (writing (registerOf c) contexts)) (at : d .at ≡ c .at) where
+    pub written-grown : Grown d
+    written-grown =
+        let s = written cs bins (h .done) .enc in
+        record {
+          wide = stands-wide o wr room c d (kindOf x) s contexts contexts′ (h .stands) q at;
+          nine = stands-more o wr room c d (kindOf x) s contexts contexts′ (h .stands) q at .nine;
+          few = omega (arith, h .bits, stands-few o wr room c d (kindOf x) s contexts contexts′ (h .stands) q at);
+          short = omega (arith, written-steady i room c contexts h .0 .short);
+        }
+
+    pub written-more : (room′ : List ℕ) (r : Coder) → x ≡ getD bins i 0 + 256 * getD bins (i + 1) 0 → PutOut wr room d room′ r → Written o cs wr bins (i + 2) room′ r contexts′
+    written-more room′ r e out =
+        let es = entriesOf bins in
+        let j = h .done in
+        let w = written cs bins j in
+        let there : getD es j ofAlign ≡ kindOf x =
+        entry-at bins j (omega (arith, h .twice)) ∙ ap (λ n. kindOf (getD bins n 0 + 256 * getD bins (n + 1) 0)) (sym (h .twice)) ∙ ap kindOf (sym e) in
+        let t : take (suc j) es ≡ take j es ++ (kindOf x ∷ []) =
+        take-suc es j ofAlign (omega (arith, entries-length bins, h .twice)) ∙ ap (λ y. take j es ++ (y ∷ [])) there in
+        let u : packedEntry (kindOf x) w ≡ written cs bins (suc j) = sym (ap (λ l. packed l (writing begun cs)) t ∙ packed-more (take j es) (kindOf x) (writing begun cs)) in
+        let v : writing (w .enc) contexts ≡ w = ap (writing (w .enc)) (h .same) in
+        let z : packedEntry (kindOf x) (writing (w .enc) contexts) ≡ written cs bins (suc j) = ap (packedEntry (kindOf x)) v ∙ u in
+        let m = stands-more o wr room c d (kindOf x) (w .enc) contexts contexts′ (h .stands) q at in
+        let n = stands-out o wr room room′ d r (packedEntry (kindOf x) (writing (w .enc) contexts) .enc) m written-grown out in
+        record {
+          done = suc j;
+          twice = omega (arith, h .twice);
+          few = omega arith;
+          stands = subst (λ (y : Writing). Stands o wr room′ r (y .enc)) z (n .0);
+          bits = n .1;
+          same = stands-contexts o wr room c d (kindOf x) (w .enc) contexts contexts′ (h .stands) q at ∙ ap (λ (y : Writing). y .contexts) z;
+        }
+
+  pub laid : (i : ℕ) (room : List ℕ) (c : Coder) (contexts room′ : List ℕ) (r : ℕ) → Written o cs wr bins i room c contexts → length bins ≤ i + 1
+      → r ≡ c .at + 2 → room′ ≡ lastOf wr c room → Laid o cs wr bins r room′ contexts
+  laid i room c contexts room′ r h k e q =
+      let s = packedFrom cs bins .enc in
+      let all : written cs bins (h .done) ≡ packedFrom cs bins = ap (λ l. packed l (writing begun cs)) (take-all (h .done) (entriesOf bins) (omega (arith, entries-length bins, h .twice))) in
+      let d : Closed o wr s r room′ = subst (λ (w : Writing). Closed o wr (w .enc) r room′) all (stands-flush o wr room room′ c _ r (h .stands) (written-steady i room c contexts h .0) e q) in
+      let moved : contexts ≡ packedFrom cs bins .contexts = h .same ∙ ap (λ (w : Writing). w .contexts) all in
       record {
-        done = suc j;
-        twice = omega (arith, h .twice);
-        few = omega arith;
-        state = q ∙ ap (stepEntry inked (kindOf x)) (h .state) ∙ sym (step-one inked (kindOf x) _)
-            ∙ sym (ap (λ l. stepAll inked l (stepping (stepsOf o (coderBegun wr)) cs)) t ∙ step-append inked (take j es) (kindOf x ∷ []) _);
+        told = d .told ∙ sym (payload-length s);
+        moved = moved;
+        sized = ap length moved ∙ all-sized (entriesOf bins) (writing begun cs);
+        long = d .long;
+        ink = d .ink;
+        dry = d .dry;
       }
-
-  pub written-all : (i : ℕ) (room : List ℕ) (c : Coder) (contexts : List ℕ) → Written o cs wr bins i room c contexts → length bins ≤ i + 1 → Behind o cs wr (entriesOf bins) room c contexts
-  written-all i room c contexts h k =
-      subst (λ (l : List Entry). Behind o cs wr l room c contexts) (take-all (h .done) (entriesOf bins) (omega (arith, entries-length bins, h .twice))) (h .state)
-
-  pub flushed-room : (room : List ℕ) (c : Coder) (contexts room′ : List ℕ) (pen : Pen) → Behind o cs wr (entriesOf bins) room c contexts
-      → sheet room′ pen ≡ stepFlush inked (stepsOf room c) → Takes 8 pen
-  flushed-room room c contexts room′ pen q e = flushed-takes o cs wr (entriesOf bins) (entries-few bins short) room c contexts room′ pen q e

@@ -1,11 +1,10 @@
 // A bin list, written entry by entry. Its own entries say what each bin is: nothing is parsed again, and any syntax's list is written so.
 use crate::coder::Coder;
-use crate::coder::Pen;
 use crate::coder::align;
 use crate::coder::bypass;
 use crate::coder::decision;
-use crate::coder::finish;
 use crate::coder::flush;
+use crate::coder::put_out;
 use bins::tags::ALIGNMENT;
 use bins::tags::BYPASS;
 use bins::tags::CONTEXTS;
@@ -17,11 +16,10 @@ ghost use lib.ListN.{length, getD};
 ghost use Rattle.tables.specs.Decisions.{decisions};
 ghost use Rattle.bins.specs.Tags.{contextCount};
 ghost use Rattle.bins.specs.CodeLaws.{Packed};
-ghost use Rattle.packing.specs.Pack.{kindOf};
+ghost use Rattle.packing.specs.Pack.{kindOf, packedEntry, writing};
 ghost use Rattle.packing.specs.Packs.{entriesMost};
-ghost use Rattle.packing.specs.PutBits.{stepping, stepEntry};
 ghost use Rattle.packing.specs.Entries.{packInto};
-ghost use Rattle.packer.specs.Ink.{inked, stepsOf, Holds};
+ghost use Rattle.packer.specs.Register.{registerOf, Steady};
 ghost use Rattle.packer.specs.WalkLaws.{Laid};
 ghost use Rattle.packer.specs.IntoCode.{packingSays};
 
@@ -41,30 +39,24 @@ fn entry_number(list: &[u8], i: usize) -> u32
     low + 256 * high
 }
 
-// One entry. A context that is not lent is 0 and stays so.
-fn put_entry(
-    table: &[u32; 512],
-    contexts: &mut [u8],
-    room: &mut [u8],
-    c: Coder,
-    entry: u32,
-) -> Coder
-    requires { ⌜ Holds 8 c × (256 ≤ c .range) × (c .range ≤ 510) × Packed (now contexts) × (now table ≡ decisions) ⌝ }
-    ensures { λ r. ⌜ stepping (stepsOf (now (room .exit)) r) (now (contexts .exit)) ≡ stepEntry inked (kindOf entry) (stepping (stepsOf (now (room .entry)) c) (now (contexts .entry))) ⌝ }
+// One entry in the register. A context that is not lent is 0 and stays so.
+fn put_entry(table: &[u32; 512], contexts: &mut [u8], c: Coder, entry: u32) -> Coder
+    requires { ⌜ Steady c × Packed (now contexts) × (now table ≡ decisions) ⌝ }
+    ensures { λ r. ⌜ (writing (registerOf r) (now (contexts .exit)) ≡ packedEntry (kindOf entry) (writing (registerOf c) (now (contexts .entry)))) × (r .at ≡ c .at) ⌝ }
 {
     let bin = entry % 2;
     if entry < 2 * BYPASS {
         let number = (entry / 2) as usize;
         if number < contexts.len() {
-            return decision(table, &mut contexts[number], room, c, bin);
+            return decision(table, &mut contexts[number], c, bin);
         }
         let mut none: u8 = 0;
-        return decision(table, &mut none, room, c, bin);
+        return decision(table, &mut none, c, bin);
     }
     if entry == ALIGNMENT {
         return align(c);
     }
-    bypass(room, c, bin)
+    bypass(c, bin)
 }
 
 // The whole list with its flush, into the room or only counted. The answer is the payload's length.
@@ -81,24 +73,17 @@ pub fn put_list(
     let mut c = Coder {
         low: 0,
         range: 510,
-        first: true,
-        outstanding: 0,
-        pen: Pen {
-            at: 0,
-            byte: 0,
-            fill: 0,
-            writing,
-        },
+        bits: 9,
+        at: 0,
     };
     let mut i: usize = 0;
     while i + 1 < list.len() {
         let entry = entry_number(list, i);
-        c = put_entry(table, contexts, room, c, entry);
+        let d = put_entry(table, contexts, c, entry);
+        c = put_out(room, d, writing);
         i += 2;
     }
-    let pen = flush(room, c);
-    let done = finish(room, pen);
-    done.at
+    flush(room, c, writing)
 }
 
 // A list that a syntax reads. The payload is counted out before anything is written; contexts are used up twice, once for each time.

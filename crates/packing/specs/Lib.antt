@@ -5,6 +5,5 @@ pub mod TreeLaws
 pub mod PayloadLaws
 pub mod Packs
 pub mod PutBitsLaws
-pub mod LikeLaws
 pub mod Entries
 pub mod EntriesLaws

@@ -1,6 +1,6 @@
 -- H.265's own steps of arithmetic writing (9.3.5, informative): low has ten bits, and bits that a carry may still change are outstanding.
 -- What is written into is a parameter: any W, with what one bit more makes of it (WriteBits(b, 1)). PutBitsLaws proves that the bits are
--- those of Pack's interval; the code does these steps with a lent room for W.
+-- those of Pack's interval, against which the code is proved.
 use Prim.Native.Nat.{ℕ, zero, suc, _+_, _-_, _*_, _/_, _%_, _^_}
 use mathlib.Core.Bool.{Bool, true, false, cond}
 use mathlib.Core.List.{List, [], _∷_}

@@ -1,0 +1,47 @@
+-- `bytes` meets its contract. Assumes nothing.
+use Prim.Native.Nat.{_≤_, _-_}
+use lib.ListN.{length}
+use borrow.Author.Needs.{needs}
+use Rattle.case_text.proofs.answer.bytes.Statement.{statement}
+use Rattle.case_text.proofs.answer.bytes.Tie as tie
+
+abbrev Inv-loop : tie.InvT-loop
+Inv-loop wanted at s to₀ i₀ to i = i ≤ length s
+
+abbrev μ-loop : tie.MeasureT-loop
+μ-loop wanted at s to₀ i₀ to i = length s - i
+
+loop-holds : tie.Need-loop-holds Inv-loop μ-loop
+loop-holds c = search needs
+
+shared-slice-read-octet : tie.Need-shared-slice-read-octet Inv-loop μ-loop
+shared-slice-read-octet c = search needs
+
+octet-requires : tie.Need-octet-requires Inv-loop μ-loop
+octet-requires c κs = search needs
+
+add-i : tie.Need-add-i Inv-loop μ-loop
+add-i c = search needs
+
+loop-less : tie.Need-loop-less Inv-loop μ-loop
+loop-less c = search needs
+
+loop-again : tie.Need-loop-again Inv-loop μ-loop
+loop-again c = search needs
+
+returns : tie.Need-returns Inv-loop μ-loop
+returns c = search needs
+
+pub bytes-spec : {M : Type 1} → statement M
+bytes-spec =
+    tie.close
+    (tie.spec
+    Inv-loop
+    μ-loop
+    loop-holds
+    shared-slice-read-octet
+    octet-requires
+    add-i
+    loop-less
+    loop-again
+    returns)

@@ -1,0 +1,55 @@
+-- `is_by` meets its contract. Assumes nothing.
+use Prim.Native.Nat.{_-_}
+use lib.ListN.{length}
+use borrow.Author.Needs.{needs}
+use Rattle.case_text.proofs.record.is_by.Statement.{statement}
+use Rattle.case_text.proofs.record.is_by.Tie as tie
+
+abbrev Inv-loop : tie.InvT-loop
+Inv-loop rules line at₀ at = Unit {0}
+
+abbrev μ-loop : tie.MeasureT-loop
+μ-loop rules line at₀ at = length rules - at
+
+loop-holds : tie.Need-loop-holds Inv-loop μ-loop
+loop-holds c = search needs
+
+find-requires : tie.Need-find-requires Inv-loop μ-loop
+find-requires c κs = search needs
+
+part-requires : tie.Need-part-requires Inv-loop μ-loop
+part-requires c κs = search needs
+
+fits-requires : tie.Need-fits-requires Inv-loop μ-loop
+fits-requires c κs = search needs
+
+returns : tie.Need-returns Inv-loop μ-loop
+returns c = search needs
+
+add-at : tie.Need-add-at Inv-loop μ-loop
+add-at c = search needs
+
+loop-less : tie.Need-loop-less Inv-loop μ-loop
+loop-less c = search needs
+
+loop-again : tie.Need-loop-again Inv-loop μ-loop
+loop-again c = search needs
+
+returns-2 : tie.Need-returns-2 Inv-loop μ-loop
+returns-2 c = search needs
+
+pub is-by-spec : {M : Type 1} → statement M
+is-by-spec =
+    tie.close
+    (tie.spec
+    Inv-loop
+    μ-loop
+    loop-holds
+    find-requires
+    part-requires
+    fits-requires
+    returns
+    add-at
+    loop-less
+    loop-again
+    returns-2)
