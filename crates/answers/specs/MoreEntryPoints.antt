@@ -1,4 +1,4 @@
--- As EntryPoints, of the entry points that pack (request (i)) and of H.264's block (request (xiii)): whatever one is handed, two answers that its promise allows are
+-- As EntryPoints, of the entry points that pack (request (i)), of H.264's block (request (xiii)) and of where a block's reading ended (request (xii)): whatever one is handed, two answers that its promise allows are
 -- equal, with what they leave in lent memory. Assumes nothing.
 use Prim.Native.Nat.{ℕ}
 use mathlib.Core.Path.{_≡_, sym, ap, _∙_}
@@ -26,6 +26,10 @@ use Rattle.h264_reader.specs.EntriesAgree.{readSays, listSays, payloadRead, bin
 use Rattle.h264_writer.specs.declared.entries.Written.{Written}
 use Rattle.h264_writer.specs.declared.entries.Written.the-variants as ofWritten
 use Rattle.h264_writer.specs.EntriesPuts.{writtenSays, binsWritten}
+use Rattle.hevc_reached.specs.declared.entries.ReachedAt.{ReachedAt}
+use Rattle.hevc_reached.specs.Reading.{reachedAll}
+use Rattle.hevc_differ.specs.declared.entries.Judgement.{Judgement}
+use Rattle.hevc_differ.specs.Judgement.{judgement}
 use Rattle.answers.specs.One.{no-both, same-yes, same-no}
 
 -- ---- what an answer says tells the answer
@@ -107,3 +111,11 @@ pub h264-init-pairs : (contexts : List ℕ) (pairs : List ℤ) (qp n n′ : ℕ)
 h264-init-pairs contexts pairs qp n n′ c c′ a b =
     let e : n ≡ n′ = a .0 ∙ sym (b .0) in
     (e, a .1 ∙ ap (λ k. contextsAfter k contexts pairs qp) e ∙ sym (b .1))
+
+-- ---- request (xii): the promises are equations with the answer itself
+module _ (l : List ℕ) (e : Engine) (contexts stats : List ℕ) (p : Params) (block : List ℤ) where
+  pub reached : (r s : ReachedAt) → r ≡ reachedAll l e contexts stats p block → s ≡ reachedAll l e contexts stats p block → r ≡ s
+  reached r s a b = a ∙ sym b
+
+  pub judge : (m : List ℕ) (r s : Judgement) → r ≡ judgement l m e contexts stats p block → s ≡ judgement l m e contexts stats p block → r ≡ s
+  judge m r s a b = a ∙ sym b

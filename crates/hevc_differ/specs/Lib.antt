@@ -1,0 +1,2 @@
+pub mod Judgement
+pub mod JudgementLaws
