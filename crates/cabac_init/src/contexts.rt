@@ -1,12 +1,12 @@
 // Contexts: from an initial value and a quantiser to a packed byte (H.265 9.3.2.2).
 use bins::tags::CONTEXTS;
 ghost use mathlib.Core.Path.{_≡_};
-ghost use Prim.Native.Nat.{_/_, _≤_, min};
-ghost use Rattle.cabac.specs.Contexts.{slopeRaised, held, packed, initial};
+ghost use Prim.Native.Nat.{_-_, _/_, _≤_, min, max};
+ghost use Rattle.cabac.specs.Contexts.{slopeRaised, packed, initial};
 ghost use Rattle.cabac.specs.Entries.{valuesRefusal, contextsAfter, statisticsAfter};
 
 // A quantiser above 51 counts as 51.
-fn quantiser(q: u8) -> u32
+pub fn quantiser(q: u8) -> u32
     ensures { λ r. ⌜ r ≡ min q 51 ⌝ }
 {
     if q < 51 { q as u32 } else { 51 }
@@ -20,20 +20,21 @@ fn slope(v: u32, q: u32) -> u32
     (5 * (v / 16) * q + 2304 - 45 * q) / 16
 }
 
-// Held to 1..126, with the 160 taken off.
-fn clip(raised: u32) -> u32
-    ensures { λ r. ⌜ r ≡ held raised ⌝ }
+// Held to 1..126, with what it was raised by taken off.
+pub fn clip(raised: u32, by: u32) -> u32
+    requires { ⌜ by ≤ 536 ⌝ }
+    ensures { λ r. ⌜ r ≡ min 126 (max 1 (raised - by)) ⌝ }
 {
-    if raised <= 161 {
+    if raised <= by + 1 {
         return 1;
     }
-    if 286 <= raised {
+    if by + 126 <= raised {
         return 126;
     }
-    raised - 160
+    raised - by
 }
 
-fn pack(p: u32) -> u8
+pub fn pack(p: u32) -> u8
     requires { ⌜ p ≤ 126 ⌝ }
     ensures { λ r. ⌜ r ≡ packed p ⌝ }
 {
@@ -46,7 +47,7 @@ pub fn init(v: u8, q: u8) -> u8
 {
     let value = v as u32;
     let raised = slope(value, quantiser(q)) + 8 * (value % 16);
-    pack(clip(raised))
+    pack(clip(raised, 160))
 }
 
 // The lent contexts from the lent values; the statistics start at 0. The number: 4 unless there is a value for each context.

@@ -1,9 +1,11 @@
 // Contexts from 40 pairs m, n and a quantiser to packed bytes (H.264 9.3.1.1).
+use cabac_init::contexts::clip;
+use cabac_init::contexts::pack;
+use cabac_init::contexts::quantiser;
 ghost use mathlib.Core.Path.{_≡_};
 ghost use mathlib.Core.Bool.{true};
-ghost use Prim.Native.Nat.{_+_, _-_, _*_, _/_, _≤_, min};
-ghost use Rattle.cabac.specs.Contexts.{packed};
-ghost use Rattle.h264_block.specs.Contexts.{raised, within, held, initial, pairsRefusal, contextsAfter};
+ghost use Prim.Native.Nat.{_+_, _-_, _*_, _/_, _≤_};
+ghost use Rattle.h264_block.specs.Contexts.{raised, within, initial, pairsRefusal, contextsAfter};
 
 fn is_within(v: i32) -> bool
     ensures { λ r. ⌜ r ≡ within v ⌝ }
@@ -21,39 +23,12 @@ fn raise(v: i32) -> u32
     (v + 128) as u32
 }
 
-// A quantiser above 51 counts as 51.
-fn quantiser(q: u8) -> u32
-    ensures { λ r. ⌜ r ≡ min q 51 ⌝ }
-{
-    if q < 51 { q as u32 } else { 51 }
-}
-
 // floor(m·q/16), m raised by 128, and raised itself by 408: a natural number rounds down, a negative one would not.
 fn slope(m: u32, q: u32) -> u32
     requires { ⌜ (m ≤ 255) × (q ≤ 51) ⌝ }
     ensures { λ r. ⌜ (r ≡ (m * q + 16 * 408 - 128 * q) / 16) × (r ≤ 2000) ⌝ }
 {
     (m * q + 6528 - 128 * q) / 16
-}
-
-// Held to 1..126, with the 536 taken off.
-fn clip(raised: u32) -> u32
-    ensures { λ r. ⌜ r ≡ held raised ⌝ }
-{
-    if raised <= 537 {
-        return 1;
-    }
-    if 662 <= raised {
-        return 126;
-    }
-    raised - 536
-}
-
-fn pack(p: u32) -> u8
-    requires { ⌜ p ≤ 126 ⌝ }
-    ensures { λ r. ⌜ r ≡ packed p ⌝ }
-{
-    if 64 <= p { p as u8 } else { (63 - p) as u8 }
 }
 
 // The packed context of a pair at the quantiser q.
@@ -63,7 +38,7 @@ fn init(m: i32, n: i32, q: u8) -> u8
 {
     let up = raise(m);
     let raised = slope(up, quantiser(q)) + raise(n);
-    pack(clip(raised))
+    pack(clip(raised, 536))
 }
 
 // 4: not 40 pairs, or a number outside −128 to 127.

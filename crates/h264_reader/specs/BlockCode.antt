@@ -10,10 +10,11 @@ use lib.Seq.{take-all, paste, paste-zero, paste-suc, length-paste}
 use lib.IntN.{ℤ, pos, natAbs}
 use lib.Dec.{ltb}
 use Rattle.bins.specs.declared.state.Interval.{Interval}
+use Rattle.bins.specs.declared.state.Refusal.{Refusal}
 use Rattle.bins.specs.declared.state.Step.{Step}
 use Rattle.bins.specs.declared.state.Step.the-variants as step
 use Rattle.bins.specs.Syn.{stop, _>>=_, Source, Out, run}
-use Rattle.bins.specs.Sources.{Cursor, cursor, byCode}
+use Rattle.bins.specs.Sources.{Cursor, cursor, byCode, stopped}
 use Rattle.bins.specs.Laws.{RefusedBy, bind-ok, bind-no}
 use Rattle.trees.specs.Levels.{downFrom, greatestOf}
 use Rattle.trees.specs.Agree.{Reads, from, reads-on}
@@ -36,9 +37,9 @@ unfolding filled
 filled-is s l ks y ds = refl
 
 module _ (s : Bool) (l : List ℕ) (x : Interval) (cs : List ℕ) (f : Step) (ds : List ℕ) (marks : List Bool) (F : SaysPlaces f s l x cs ds marks) where
-  pub block-refused : (m : ℕ) → f ≡ step.Refused m → (lv : List ℤ) → SaysBlock f s l x cs ds lv
+  pub block-refused : (m : Refusal) → f ≡ stopped m → (lv : List ℤ) → SaysBlock f s l x cs ds lv
   block-refused m q lv =
-      let n : SaysPlaces (step.Refused m) s l x cs ds marks = subst (λ (z : Step). SaysPlaces z s l x cs ds marks) q F in
+      let n : SaysPlaces (stopped m) s l x cs ds marks = subst (λ (z : Step). SaysPlaces z s l x cs ds marks) q F in
       let r = bind-no (byCode s l) (placesS 15 0 []) filled (cursor x cs) m n in
       subst (λ (z : Step). SaysBlock z s l x cs ds lv) (sym q) (r .0, ap (λ t. from s l t x cs) is ∙ r .1)
 
@@ -61,7 +62,7 @@ module _ (s : Bool) (l : List ℕ) (x : Interval) (cs : List ℕ) (f : Step) (ds
 
         by : (g : Step) → SaysLevels g s l marks y ds es (replicate 16 (pos 0)) lv′ → SaysBlock g s l x cs es lv′
         by (step.Bin u z) h = on ∙ h
-        by (step.Refused n) h = (h .0, on ∙ h .1)
+        by (step.Refused n at) h = (h .0, on ∙ h .1)
 
 -- ---- a copy to the front
 -- in the loop, at place i
@@ -98,9 +99,9 @@ module _ (s : Bool) (l : List ℕ) (x : Interval) (cs ds : List ℕ) (lv : List 
       each-run (byCode s l) (block-each {n = 0}) (cursor x cs) lv (cursor y ds) (subst (λ (z : Step). SaysBlock z s l x cs ds lv) q h) .1
 
   -- ---- into the front of a lent block
-  pub into-refused : (m : ℕ) → r ≡ step.Refused m → (lent lent′ : List ℤ) → lent′ ≡ cleared lent → SaysInto r s l x cs cs lent lent′
+  pub into-refused : (m : Refusal) → r ≡ stopped m → (lent lent′ : List ℤ) → lent′ ≡ cleared lent → SaysInto r s l x cs cs lent lent′
   into-refused m q lent lent′ e =
-      let n : SaysBlock (step.Refused m) s l x cs ds lv = subst (λ (z : Step). SaysBlock z s l x cs ds lv) q h in
+      let n : SaysBlock (stopped m) s l x cs ds lv = subst (λ (z : Step). SaysBlock z s l x cs ds lv) q h in
       subst (λ (z : Step). SaysInto z s l x cs cs lent lent′) (sym q) (n, refl, e)
 
   pub into-got : (v : ℕ) (y : Interval) → r ≡ step.Bin v y → (lent lent′ : List ℤ) → lent′ ≡ blockWith lv lent → (g : ℕ) → g ≡ greatestOf lv

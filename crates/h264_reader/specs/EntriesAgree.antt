@@ -33,4 +33,4 @@ payloadChecks l e contexts block = payloadRefusal l orElse blockRefusal block or
 
 abbrev pub stepNo : Step → ℕ
 stepNo (step.Bin v y) = 0
-stepNo (step.Refused n) = n
+stepNo (step.Refused n at) = n

@@ -12,13 +12,14 @@ use lib.Dec.{ltb}
 use borrow.Author.Tests.{ltb-false, lt-ltb, le-ltb}
 use Rattle.bins.specs.declared.state.Engine.{Engine}
 use Rattle.bins.specs.declared.state.Interval.{Interval}
+use Rattle.bins.specs.declared.state.Refusal.{Refusal}
 use Rattle.bins.specs.declared.state.Step.{Step}
 use Rattle.bins.specs.declared.state.Step.the-variants as step
 use Rattle.bins.specs.Bits.{ends, pastMost}
 use Rattle.bins.specs.Engine.{place}
 use Rattle.bins.specs.Interval.{opened, settled, placeOf, Goes}
 use Rattle.bins.specs.Syn.{Out, Reading, run, byEngine, byList}
-use Rattle.bins.specs.Sources.{Cursor, cursor, byCode}
+use Rattle.bins.specs.Sources.{Cursor, cursor, byCode, stopped}
 use Rattle.bins.specs.Laws.{RefusedBy, mapOut}
 use Rattle.bins.specs.CodeLaws.{Packed}
 use Rattle.bins.specs.EngineRuns.{runs-goes}
@@ -91,8 +92,8 @@ pub ended-not : (e : Engine) → e .ended ≡ false → 0 ≡ endedRefusal e
 unfolding endedRefusal
 ended-not e q = rw q
 
-pub step-number : (r : Step) (m n : ℕ) → r ≡ step.Refused m → n ≡ stepNo r → r ≡ step.Refused n
-step-number r m n q e = q ∙ ap step.Refused (sym (e ∙ ap stepNo q))
+pub step-number : (r : Step) (m : Refusal) (n : ℕ) → r ≡ stopped m → n ≡ stepNo r → r ≡ step.Refused n (m .at)
+step-number r m n q e = q ∙ ap (λ k. step.Refused k (m .at)) (sym (e ∙ ap stepNo q))
 
 -- ---- a payload
 pub record Passed (l : List ℕ) (e : Engine) (contexts : List ℕ) (lent : List ℤ) : Type 0 where
@@ -156,7 +157,7 @@ module _ (l : List ℕ) (e : Engine) (contexts : List ℕ) (lent : List ℤ) whe
 
     -- r is what the reading into the block answered
     module _ (r : Step) (contexts′ : List ℕ) (lent′ : List ℤ) (s : SaysInto r false l (opened e) contexts contexts′ lent lent′) where
-      pub payload-refused : (n : ℕ) → r ≡ step.Refused n → payloadRead (read.Refused n) contexts′ lent′ ≡ readPayload l e contexts lent
+      pub payload-refused : (n : ℕ) {at : Interval} → r ≡ step.Refused n at → payloadRead (read.Refused n) contexts′ lent′ ≡ readPayload l e contexts lent
       unfolding readByEngine
       payload-refused n u =
           let w = subst (λ (z : Step). SaysInto z false l (opened e) contexts contexts′ lent lent′) u s in
@@ -198,7 +199,7 @@ module _ (l : List ℕ) (lent : List ℤ) where
         ap (λ n. readBinsBy n l lent) (sym q) ∙ ap (readFromList lent) w
 
     module _ (r : Step) (contexts′ : List ℕ) (lent′ : List ℤ) (s : SaysInto r true l x contexts contexts′ lent lent′) where
-      pub bins-refused : (n : ℕ) → r ≡ step.Refused n → binsRead (readlist.Refused n) lent′ ≡ readBins l lent
+      pub bins-refused : (n : ℕ) {at : Interval} → r ≡ step.Refused n at → binsRead (readlist.Refused n) lent′ ≡ readBins l lent
       unfolding readFromList
       bins-refused n u =
           let w = subst (λ (z : Step). SaysInto z true l x contexts contexts′ lent lent′) u s in

@@ -10,11 +10,12 @@ use lib.ListN.{length, getD, set}
 use lib.IntN.{ℤ, natAbs}
 use borrow.Author.Tests.{lt-ltb, le-ltb}
 use Rattle.bins.specs.declared.state.Interval.{Interval}
+use Rattle.bins.specs.declared.state.Refusal.{Refusal}
 use Rattle.bins.specs.declared.state.Step.{Step}
 use Rattle.bins.specs.declared.state.Step.the-variants as step
 use Rattle.bins.specs.Engine.{bitNo}
 use Rattle.bins.specs.Syn.{Syn, done, stop, bypass, _>>=_, Out, run}
-use Rattle.bins.specs.Sources.{Cursor, cursor, byCode, bypassFrom, stepOf}
+use Rattle.bins.specs.Sources.{Cursor, cursor, byCode, bypassFrom, stepOf, stopped}
 use Rattle.bins.specs.Laws.{RefusedBy, bind-ok, bind-no}
 use Rattle.trees.specs.Levels.{negative, signed, inRange, downFrom}
 use Rattle.trees.specs.Agree.{Reads, from, Says, SaysFlag, reads-on, says-ok, says-no, flag-ok, flag-no}
@@ -61,10 +62,10 @@ run-stop : (s : Bool) (l : List ℕ) (n : ℕ) (z : Interval) (ds : List ℕ) �
 unfolding run
 run-stop s l n z ds = refl
 
-stopped : (s : Bool) (l : List ℕ) (ones bigs k : ℕ) (ks : List ℕ) (lv : List ℤ) (v : ℕ) (neg : Bool) (z : Interval) (ds : List ℕ) → inRange 15 neg (suc v) ≡ false
+out-stops : (s : Bool) (l : List ℕ) (ones bigs k : ℕ) (ks : List ℕ) (lv : List ℤ) (v : ℕ) (neg : Bool) (z : Interval) (ds : List ℕ) → inRange 15 neg (suc v) ≡ false
     → from s l (signedS ones bigs k ks lv v neg) z ds ≡ Out.no 8 (cursor z ds)
 unfolding signedS
-stopped s l ones bigs k ks lv v neg z ds q =
+out-stops s l ones bigs k ks lv v neg z ds q =
     ap (λ t. from s l t z ds) (passed (inRange 15 neg (suc v)) (rest ones bigs k ks lv v neg) (stop 8) q) ∙ run-stop s l 8 z ds
 
 went : (s : Bool) (l : List ℕ) (ones bigs k : ℕ) (ks : List ℕ) (lv : List ℤ) (v : ℕ) (neg : Bool) (z : Interval) (ds : List ℕ) → inRange 15 neg (suc v) ≡ true
@@ -83,7 +84,7 @@ module _ (s : Bool) (l : List ℕ) (ones bigs k : ℕ) (x : Interval) (cs : List
   size : List ℤ → ℕ
   size w = natAbs (levelAt w k) - 1
 
-  pub level-refused : (m : ℕ) → f ≡ step.Refused m → SaysLevel f s l ones bigs k x cs ds lv lv′
+  pub level-refused : (m : Refusal) → f ≡ stopped m → SaysLevel f s l ones bigs k x cs ds lv lv′
   unfolding size
   level-refused m q = subst (λ (z : Step). SaysLevel z s l ones bigs k x cs ds lv lv′) (sym q) (λ ks.
       let r = bind-no (byCode s l) (magnitudeS ones bigs size) (sizedS ones bigs k ks lv) (cursor x cs) m (says-no f m ds _ (F size) q) in
@@ -102,8 +103,8 @@ module _ (s : Bool) (l : List ℕ) (ones bigs k : ℕ) (x : Interval) (cs : List
     onto ks = ap (λ t. from s l t x cs) (is ones bigs k ks lv)
         ∙ bind-ok (byCode s l) (magnitudeS ones bigs size) (sizedS ones bigs k ks lv) (cursor x cs) v (cursor y ds) (says-ok f v y ds _ (F size) q)
 
-    module _ (g : Step) (G : g ≡ stepOf (bypassFrom s l y)) where
-      pub level-short : (m : ℕ) → g ≡ step.Refused m → SaysLevel g s l ones bigs k x cs ds lv lv′
+    module _ (g : Step) (G : g ≡ stepOf y (bypassFrom s l y)) where
+      pub level-short : (m : Refusal) → g ≡ stopped m → SaysLevel g s l ones bigs k x cs ds lv lv′
       level-short m e = subst (λ (z : Step). SaysLevel z s l ones bigs k x cs ds lv lv′) (sym e) (λ ks.
           let r = bypass-then-no s l y ds (λ w. negative (levelAt w k)) (signedS ones bigs k ks lv v) m (flag-no g m ds _ (bypass-says s l y ds g G) e) in
           (r .0, onto ks ∙ r .1))
@@ -118,9 +119,9 @@ module _ (s : Bool) (l : List ℕ) (ones bigs k : ℕ) (x : Interval) (cs : List
             onto ks ∙ bypass-then s l y ds (λ w. negative (levelAt w k)) (signedS ones bigs k ks lv v) (flag .0) z ds (flag .2)
             ∙ ap (λ d. from s l (signedS ones bigs k ks lv v d) z ds) b
 
-        pub level-out : inRange 15 (eqb c 1) (v + 1) ≡ false → SaysLevel (step.Refused 8) s l ones bigs k x cs ds lv lv′
+        pub level-out : inRange 15 (eqb c 1) (v + 1) ≡ false → SaysLevel (step.Refused 8 z) s l ones bigs k x cs ds lv lv′
         level-out u ks =
-            (cursor z ds, both ks ∙ stopped s l ones bigs k ks lv v (eqb c 1) z ds (ap (inRange 15 (eqb c 1)) (sym (add-one v)) ∙ u))
+            (ds, both ks ∙ out-stops s l ones bigs k ks lv v (eqb c 1) z ds (ap (inRange 15 (eqb c 1)) (sym (add-one v)) ∙ u))
 
         pub level-most : inRange 15 (eqb c 1) (v + 1) ≡ true → v + 1 ≤ 4194304
         level-most u = omega (arith, level-small)
@@ -178,9 +179,9 @@ module _ (s : Bool) (l : List ℕ) (marks : List Bool) (x : Interval) (cs : List
             i .left ∙ ap (λ j. from s l (levelsS (downFrom (marked marks) j) ones bigs m) y ds) one-less
             ∙ ap (λ t. from s l (levelsS t ones bigs m) y ds) (down-yes (marked marks) (k - 1) q)
 
-        pub levels-refused : (n : ℕ) → r ≡ step.Refused n → SaysLevels r s l marks x cs es lv m′
+        pub levels-refused : (n : Refusal) → r ≡ stopped n → SaysLevels r s l marks x cs es lv m′
         levels-refused n u =
-            let f : SaysLevel (step.Refused n) s l ones bigs (k - 1) y ds es m m′ = subst (λ (z : Step). SaysLevel z s l ones bigs (k - 1) y ds es m m′) u e in
+            let f : SaysLevel (stopped n) s l ones bigs (k - 1) y ds es m m′ = subst (λ (z : Step). SaysLevel z s l ones bigs (k - 1) y ds es m m′) u e in
             let b = f (downFrom (marked marks) (k - 1)) in
             subst (λ (z : Step). SaysLevels z s l marks x cs es lv m′) (sym u) (b .0, here ∙ b .1)
 

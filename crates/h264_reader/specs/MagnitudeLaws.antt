@@ -9,11 +9,12 @@ use lib.Dec.{leb, ltb}
 use lib.IntN.{ℤ}
 use borrow.Author.Tests.{le-leb, lt-leb, lt-ltb, le-ltb}
 use Rattle.bins.specs.declared.state.Interval.{Interval}
+use Rattle.bins.specs.declared.state.Refusal.{Refusal}
 use Rattle.bins.specs.declared.state.Step.{Step}
 use Rattle.bins.specs.declared.state.Step.the-variants as step
 use Rattle.bins.specs.Syn.{Syn, done, stop, _>>=_, Source, Out, run}
 use Rattle.bins.specs.Readers.{bitsS, onesS}
-use Rattle.bins.specs.Sources.{Cursor, cursor, byCode, Readable, stepOfBits, bitsFrom}
+use Rattle.bins.specs.Sources.{Cursor, cursor, byCode, Readable, stepOfBits, bitsFrom, stopped, refusedAt}
 use Rattle.bins.specs.Laws.{RefusedBy, bind-ok, bind-no, mapOut}
 use Rattle.bins.specs.CodeLaws.{bits-from}
 use Rattle.trees.specs.Shapes.{egBase, firstThen, countS, golombS}
@@ -29,7 +30,7 @@ use Rattle.h264_block.specs.Block.{S, magnitudeS, isSig}
 -- ---- several bypass bins, as one call answers them
 says-bits : (cs : List ℕ) (o : Out Interval ℕ) → Says (stepOfBits o) cs (mapOut (λ y. cursor y cs) o)
 says-bits cs (Out.ok v y) = refl
-says-bits cs (Out.no n y) = (cursor y cs, refl)
+says-bits cs (Out.no n y) = (cs, refl)
 
 module _ (s : Bool) (l : List ℕ) (n : ℕ) (y : Interval) (h : Readable s l y) (g : Step) (G : g ≡ stepOfBits (bitsFrom s l n y)) where
   bits-says : (w : List ℤ → ℕ) (cs : List ℕ) → Says g cs (from s l (bitsS n 0 w) y cs)
@@ -82,7 +83,7 @@ module _ (s : Bool) (l : List ℕ) (most : ℕ) (x : Interval) (f : Step) (F : (
     unfolding golombS wants rest tail
     is = refl
 
-    pub golomb-refused : (n : ℕ) → f ≡ step.Refused n → Says f cs (from s l (golombS most 0 v) x cs)
+    pub golomb-refused : (n : Refusal) → f ≡ stopped n → Says f cs (from s l (golombS most 0 v) x cs)
     golomb-refused n q =
         let r = bind-no (byCode s l) (onesS most 0 wants) rest (cursor x cs) n (says-no f n cs _ (ones-says wants cs) q) in
         subst (λ (z : Step). Says z cs (from s l (golombS most 0 v) x cs)) (sym q) (r .0, ap (λ t. from s l t x cs) is ∙ r .1)
@@ -92,10 +93,10 @@ module _ (s : Bool) (l : List ℕ) (most : ℕ) (x : Interval) (f : Step) (F : (
       on = ap (λ t. from s l t x cs) is
           ∙ bind-ok (byCode s l) (onesS most 0 wants) rest (cursor x cs) n (cursor y cs) (says-ok f n y cs _ (ones-says wants cs) q)
 
-      pub golomb-stops : most ≤ n → RefusedBy 8 (from s l (golombS most 0 v) x cs)
+      pub golomb-stops : most ≤ n → RefusedBy (refusedAt 8 y) (from s l (golombS most 0 v) x cs)
       unfolding rest
       golomb-stops h =
-          (cursor y cs, on ∙ ap (λ t. from s l t y cs) (picked (leb most n) (stop 8) (tail n) (le-leb most n h)) ∙ run-stop s l 8 y cs)
+          (cs, on ∙ ap (λ t. from s l t y cs) (picked (leb most n) (stop 8) (tail n) (le-leb most n h)) ∙ run-stop s l 8 y cs)
 
       module _ (h : n < most) (r : Readable s l x) (g : Step) (G : g ≡ stepOfBits (bitsFrom s l n y)) where
         goes : from s l (golombS most 0 v) x cs ≡ from s l (bitsS n 0 (λ t. v t - egBase 0 n) >>= λ x. done (egBase 0 n + x)) y cs
@@ -105,7 +106,7 @@ module _ (s : Bool) (l : List ℕ) (most : ℕ) (x : Interval) (f : Step) (F : (
             on ∙ ap (λ t. from s l t y cs) (passed (leb most n) (stop 8) (tail n) (lt-leb most n h))
             ∙ ap (λ m. from s l (bitsS m 0 (λ t. v t - egBase 0 n) >>= λ x. done (egBase 0 n + x)) y cs) z
 
-        pub golomb-short : (m : ℕ) → g ≡ step.Refused m → Says g cs (from s l (golombS most 0 v) x cs)
+        pub golomb-short : (m : Refusal) → g ≡ stopped m → Says g cs (from s l (golombS most 0 v) x cs)
         golomb-short m e =
             let b = bind-no (byCode s l) (bitsS n 0 (λ t. v t - egBase 0 n)) (λ x. done (egBase 0 n + x)) (cursor y cs) m
             (says-no g m cs _ (bits-says s l n y (ones-readable n y q r) g G (λ t. v t - egBase 0 n) cs) e) in
@@ -163,7 +164,7 @@ module _ (s : Bool) (l : List ℕ) (ones bigs : ℕ) (x : Interval) (cs : List �
     unfolding magnitudeS upto more high
     mag = refl
 
-    pub magnitude-refused : (n : ℕ) → f ≡ step.Refused n → Says f ds (from s l (magnitudeS ones bigs v) x cs)
+    pub magnitude-refused : (n : Refusal) → f ≡ stopped n → Says f ds (from s l (magnitudeS ones bigs v) x cs)
     magnitude-refused n q =
         let r = bind-no (byCode s l) (countS (atMagnitude ones bigs) 14 0 upto) more (cursor x cs) n (says-no f n ds _ (count-says upto) q) in
         subst (λ (z : Step). Says z ds (from s l (magnitudeS ones bigs v) x cs)) (sym q) (r .0, ap (λ t. from s l t x cs) mag ∙ r .1)
@@ -182,7 +183,7 @@ module _ (s : Bool) (l : List ℕ) (ones bigs : ℕ) (x : Interval) (cs : List �
         unfolding more high
         highs = onto ∙ ap (λ t. from s l t y ds) (passed (ltb q 14) (done q) high (le-ltb q 14 h))
 
-        pub magnitude-short : (n : ℕ) → g ≡ step.Refused n → Says g ds (from s l (magnitudeS ones bigs v) x cs)
+        pub magnitude-short : (n : Refusal) → g ≡ stopped n → Says g ds (from s l (magnitudeS ones bigs v) x cs)
         magnitude-short n u =
             let b = bind-no (byCode s l) (golombS 16 0 (λ w. v w - 14)) (λ x. done (14 + x)) (cursor y ds) n (says-no g n ds _ (G (λ w. v w - 14) ds) u) in
             subst (λ (z : Step). Says z ds (from s l (magnitudeS ones bigs v) x cs)) (sym u) (b .0, highs ∙ b .1)

@@ -11,11 +11,12 @@ use lib.Seq.{getD-set-same, getD-set-other}
 use lib.IntN.{ℤ}
 use borrow.Author.Tests.{eq-eqb, ne-eqb}
 use Rattle.bins.specs.declared.state.Interval.{Interval}
+use Rattle.bins.specs.declared.state.Refusal.{Refusal}
 use Rattle.bins.specs.declared.state.Step.{Step}
 use Rattle.bins.specs.declared.state.Step.the-variants as step
 use Rattle.bins.specs.Engine.{bitNo}
 use Rattle.bins.specs.Syn.{Syn, done, bin, Out, run}
-use Rattle.bins.specs.Sources.{Cursor, cursor}
+use Rattle.bins.specs.Sources.{Cursor, cursor, stopped}
 use Rattle.bins.specs.Laws.{RefusedBy}
 use Rattle.trees.specs.Levels.{downFrom}
 use Rattle.trees.specs.ListLaws.{down-first}
@@ -47,7 +48,7 @@ unfolding behindLast
 last-no s l n k ks z es = refl
 
 module _ (s : Bool) (l : List ℕ) (k : ℕ) (x : Interval) (cs : List ℕ) (h : Reads s l x cs) (f : Step) (ds : List ℕ) (F : SaysFlag f ds (from s l (binP k) x cs)) where
-  pub place-refused : (m : ℕ) → f ≡ step.Refused m → SaysPlace f s l k x cs ds
+  pub place-refused : (m : Refusal) → f ≡ stopped m → SaysPlace f s l k x cs ds
   place-refused m q = subst (λ (z : Step). SaysPlace z s l k x cs ds) (sym q) (λ n ks.
       let r = bin-then-no s l x cs (λ w. isSig w k) (behindSig n k ks) k m (flag-no f m ds _ F q) in
       (r .0, ap (λ t. from s l t x cs) (is n k ks) ∙ r .1))
@@ -78,7 +79,7 @@ module _ (s : Bool) (l : List ℕ) (k : ℕ) (x : Interval) (cs : List ℕ) (h :
             let b : g .0 ≡ true = bit-one (g .0) (λ e. u (g .1 ∙ e)) in
             onto (g .0) (g .2) n ks ∙ ap (λ d. from s l (behindSig n k ks d) y ds) b
 
-        pub place-short : (m : ℕ) → g ≡ step.Refused m → SaysPlace g s l k x cs es
+        pub place-short : (m : Refusal) → g ≡ stopped m → SaysPlace g s l k x cs es
         place-short m e = subst (λ (z : Step). SaysPlace z s l k x cs es) (sym e) (λ n ks.
             let r = bin-then-no s l y ds (λ w. eqb (firstOf (sigPlaces w)) k) (behindLast n k ks) (15 + k) m (flag-no g m es _ G e) in
             (r .0, sig n ks ∙ r .1))
@@ -168,9 +169,9 @@ module _ (s : Bool) (l : List ℕ) (x : Interval) (cs : List ℕ) where
           let m : 15 - k ≡ suc (15 - (k + 1)) = omega (arith, i .few) in
           i .left ∙ ap (λ n. from s l (placesS n k (downFrom (marked marks) k)) y ds) m
 
-      pub places-refused : (m : ℕ) → r ≡ step.Refused m → (marks′ : List Bool) → SaysPlaces r s l x cs es marks′
+      pub places-refused : (m : Refusal) → r ≡ stopped m → (marks′ : List Bool) → SaysPlaces r s l x cs es marks′
       places-refused m q marks′ =
-          let f : SaysPlace (step.Refused m) s l k y ds es = subst (λ (z : Step). SaysPlace z s l k y ds es) q e in
+          let f : SaysPlace (stopped m) s l k y ds es = subst (λ (z : Step). SaysPlace z s l k y ds es) q e in
           let b = f (15 - (k + 1)) (downFrom (marked marks) k) in
           subst (λ (z : Step). SaysPlaces z s l x cs es marks′) (sym q) (b .0, next ∙ b .1)
 

@@ -1,7 +1,7 @@
 // The two entry points: a block from a payload, and a block from a bin list. Each takes anything: what is not accepted is answered by its number.
 use crate::block::copy;
 use crate::block::read_into;
-use bins::places::BitPlace;
+use bins::places::SourcePlace;
 use bins::state::Engine;
 use bins::state::Interval;
 use bins::state::Step;
@@ -81,7 +81,7 @@ fn step_refusal(r: Step) -> u32
 {
     match r {
         Step::Bin(_, _) => 0,
-        Step::Refused(n) => n,
+        Step::Refused(n, _) => n,
     }
 }
 
@@ -113,7 +113,7 @@ pub fn read_bins(bytes: &[u8], block: &mut [i32]) -> ReadList
     let front = Interval {
         range: 256,
         offset: 0,
-        position: BitPlace(0),
+        position: SourcePlace(0),
     };
     let r = read_into(true, &mut contexts, bytes, block, front);
     let Step::Bin(greatest, x) = r else {

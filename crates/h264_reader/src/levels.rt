@@ -54,7 +54,7 @@ fn one_level(
     let negative = sign == 1;
     let m = v + 1;
     if !in_range(negative, m) {
-        return Step::Refused(8);
+        return Step::Refused(8, z);
     }
     store(block, k, negative, m);
     Step::Bin(v, z)

@@ -26,7 +26,7 @@ fn exp_golomb(list: bool, most: u32, bytes: &[u8], x: Interval) -> Step
         return f;
     };
     if most <= n {
-        return Step::Refused(8);
+        return Step::Refused(8, y);
     }
     let g = decode_bypass_bits(list, bytes, y, n);
     let Step::Bin(suffix, z) = g else {

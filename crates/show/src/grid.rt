@@ -1,8 +1,8 @@
 // The block as a grid with the numbers of rows and columns, and lines between its 4x4 sub-blocks: a dot for 0; a level of more than half the greatest magnitude
 // stands in brackets. What does not fit into 80 columns so goes without brackets, and in panels below one another where it must.
-use hevc_extents::greatest as greatest_of;
 use text::lines::part;
 use text::write;
+use tree_shapes::levels::magnitude;
 ghost use Prim.Native.Nat.{_≤_};
 
 fn digits(n: u32) -> usize
@@ -24,12 +24,6 @@ fn digits(n: u32) -> usize
         return 5;
     }
     8
-}
-
-// The distance from 0: the greatest magnitude of this level alone.
-fn magnitude(v: i32) -> u32 {
-    let alone = [v];
-    greatest_of(&alone)
 }
 
 // A sign and the digits.

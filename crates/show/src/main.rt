@@ -1,18 +1,24 @@
-// Shows one block to a person: a frame of hexadecimal from standard input, the block or the refusal in words to standard output.
+// Shows blocks to a person: frames of hexadecimal from standard input, a line each; of each the block or the refusal in words to standard output.
 //
 // A frame is 8 bytes for log2 size, luma (1) or chroma (0), scan, bit depth, QP, hiding (0 or 1), and the payload length as two bytes, high
 // first; then an initial value for each context; then the payload of at most 4,096 bytes. Digits are lower case, two a byte, with nothing between them. Other
 // options are off, the statistics 0. What stands behind the frame is not looked at.
+//
+// A frame of H.264 stands behind the word `h264` and a space: QP, the payload length as two bytes, high first, 40 pairs m, n as signed bytes (two's
+// complement), the payload of at most 4,096 bytes.
 mod grid; // grid.rt: the levels
+mod h264; // h264.rt: a frame of H.264
 mod summary; // summary.rt: count, sum and map
 mod words; // words.rt: refusals and findings in words
 
 use bins::places::BitPlace;
 use bins::state::Engine;
 use bins::tags::CONTEXTS;
+use bytes::scan::find;
 use cabac::engine::State;
 use cabac_engine::engine::start;
 use cabac_init::contexts::init_contexts;
+use check::same;
 use hevc_block::block::Found;
 use hevc_reader::entries::Read;
 use hevc_reader::entries::residual_coding;
@@ -155,12 +161,14 @@ fn read(header: &[u8; 8], values: &[u8; CONTEXTS], payload: &[u8]) {
     }
 }
 
-fn payload_length(header: &[u8; 8]) -> usize {
-    256 * wide(header[6]) + wide(header[7])
+fn payload_length(high: u8, low: u8) -> usize
+    ensures { λ r. ⌜ r ≤ 65535 ⌝ }
+{
+    256 * wide(high) + wide(low)
 }
 
-// The frame that stands at the front of the text.
-fn frame(text: &[u8]) {
+// The frame of HEVC that stands at the front of the text.
+fn hevc_frame(text: &[u8]) {
     let mut header = [0u8; 8];
     let mut values = [0u8; CONTEXTS];
     let mut bytes = [0u8; MOST];
@@ -172,7 +180,7 @@ fn frame(text: &[u8]) {
         write::line(b"bad input: the first 8 bytes are not lower-case hexadecimal");
         return;
     }
-    let length = payload_length(&header);
+    let length = payload_length(header[6], header[7]);
     if MOST < length {
         write::line(b"bad input: the payload length is over 4096");
         return;
@@ -193,8 +201,76 @@ fn frame(text: &[u8]) {
     read(&header, &values, part(&bytes, 0, length));
 }
 
+// QP, length and pairs.
+const OLD_FRONT: usize = 83;
+
+const OLD_FRONT_DIGITS: usize = 2 * OLD_FRONT;
+
+// The frame of H.264 that stands at the front of the text.
+fn old_frame(text: &[u8]) {
+    let mut front = [0u8; 3];
+    let mut bytes = [0u8; OLD_FRONT + MOST];
+    if text.len() < OLD_FRONT_DIGITS {
+        write::line(b"bad input: it ends within QP, payload length and pairs");
+        return;
+    }
+    if !spelled(part(text, 0, 6), &mut front) {
+        write::line(b"bad input: QP and payload length are not lower-case hexadecimal");
+        return;
+    }
+    let length = payload_length(front[1], front[2]);
+    if MOST < length {
+        write::line(b"bad input: the payload length is over 4096");
+        return;
+    }
+    let end = OLD_FRONT_DIGITS + 2 * length;
+    if text.len() < end {
+        write::line(b"bad input: it ends before the payload does");
+        return;
+    }
+    if !spelled(part(text, 0, end), &mut bytes) {
+        write::line(b"bad input: the pairs or the payload are not lower-case hexadecimal");
+        return;
+    }
+    h264::frame(part(&bytes, 0, OLD_FRONT + length), length);
+}
+
+// Whether the text begins with the word.
+fn is_h264(text: &[u8]) -> bool {
+    same(part(text, 0, 5), b"h264 ")
+}
+
+fn frame(text: &[u8]) {
+    if is_h264(text) {
+        old_frame(part(text, 5, text.len()));
+    } else {
+        hevc_frame(text);
+    }
+}
+
+// An empty line between two frames.
+fn next_frame(text: &[u8], from: usize) {
+    if 0 < from {
+        write::end_line();
+    }
+    frame(text);
+}
+
+// A frame a line; no line at all is a frame that ends too early.
+fn frames(text: &[u8]) {
+    if text.len() == 0 {
+        frame(text);
+    }
+    let mut from: usize = 0;
+    while from < text.len() {
+        let to = find(text, from, text.len(), b'\n');
+        next_frame(part(text, from, to), from);
+        from = to + 1;
+    }
+}
+
 fn main() {
     let mut buffer = io::large_buffer();
     let n = io::read_full(STDIN_FILENO, &mut buffer);
-    frame(part(&buffer, 0, n));
+    frames(part(&buffer, 0, n));
 }

@@ -91,7 +91,11 @@ pub fn found(f: Found) {
     rdpcm(direction);
     reach(b"column extent       ", f.column, b", columns beyond ");
     reach(b"row extent          ", f.row, b", rows beyond ");
-    named(b"greatest magnitude  ", f.greatest);
+    greatest(f.greatest);
+}
+
+pub fn greatest(n: u32) {
+    named(b"greatest magnitude  ", n);
 }
 
 // Whole bytes that hold so many bits.

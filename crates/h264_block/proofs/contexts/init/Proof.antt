@@ -5,43 +5,28 @@ use mathlib.Core.Path.{_≡_, ap, _∙_}
 use borrow.Author.Needs.{needs}
 use Rattle.h264_block.proofs.contexts.init.Statement.{statement}
 use Rattle.h264_block.proofs.contexts.init.Tie as tie
-use Rattle.h264_block.proofs.contexts.init.Reads as reads
-use Rattle.h264_block.proofs.contexts.init.Lts as lts
-use Rattle.h264_block.proofs.contexts.clip.Reads as clip-reads
-use Rattle.h264_block.proofs.contexts.pack.Reads as pack-reads
-use Rattle.h264_block.proofs.contexts.quantiser.Reads as quantiser-reads
-use Rattle.h264_block.proofs.contexts.raise.Reads as raise-reads
-use Rattle.h264_block.proofs.contexts.slope.Reads as slope-reads
 
--- src/contexts.rt:64:9
 raise-requires : tie.Need-raise-requires
 raise-requires c κs = search needs
 
--- src/contexts.rt:65:28
 quantiser-requires : tie.Need-quantiser-requires
 quantiser-requires c κs = search needs
 
--- src/contexts.rt:65:18
 slope-requires : tie.Need-slope-requires
 slope-requires c κs = search needs
 
--- src/contexts.rt:65:44
 raise-requires-2 : tie.Need-raise-requires-2
 raise-requires-2 c κs = search needs
 
--- src/contexts.rt:65:18
 add-raised : tie.Need-add-raised
 add-raised c = search needs
 
--- src/contexts.rt:66:10
 clip-requires : tie.Need-clip-requires
 clip-requires c κs = search needs
 
--- src/contexts.rt:66:5
 pack-requires : tie.Need-pack-requires
 pack-requires c κs = search needs
 
--- src/contexts.rt:60:1
 returns : tie.Need-returns
 returns c = let b = c .before .before .before .before .before .before in let a = b .args in initial-code (a .m) (a .n) (a .q) (c .before .before .before .before .before .raise .result) (c .before .before .before .before .quantiser .result) (c .before .before .before .slope .result) (c .before .before .raise2 .result) (c .before .clip .result) (c .pack .result) (c .before .before .before .before .before .raise .ensures .0 ∙ ap raised (toZ-ofZ (b .fits .m))) (c .before .before .before .before .quantiser .ensures) (c .before .before .before .slope .ensures .0) (c .before .before .raise2 .ensures .0 ∙ ap raised (toZ-ofZ (b .fits .n))) (c .before .clip .ensures) (c .pack .ensures)
 
