@@ -19,8 +19,8 @@ use Rattle.hevc_residual.specs.Scan.{Spot}
 use Rattle.hevc_residual.specs.Wanted.{Wanted, S, innerOf, spotIn}
 use Rattle.hevc_residual.specs.Head.{skipOrBypass}
 use Rattle.hevc_residual.specs.SubBlock.{Acc, Filled, Greater1, greater1S, countOf, firstGreater1, escapeDataPresent, signsNo, dues, levelsS, sbType}
-use Rattle.hevc_elements.specs.declared.head.Head.{Head}
-use Rattle.hevc_elements.specs.HeadAgree.{headOf}
+use Rattle.hevc_head.specs.declared.head.Head.{Head}
+use Rattle.hevc_head.specs.HeadAgree.{headOf}
 use Rattle.hevc_rules.specs.declared.places.Places.{Places}
 use Rattle.hevc_rules.specs.declared.levels.Going.{Going}
 use Rattle.hevc_rules.specs.Packing.{Packs, unpack, unpacked, unmask}

@@ -18,8 +18,8 @@ use Rattle.hevc_residual.specs.Wanted.{Wanted, S, width, outerOf, innerOf, want
 use Rattle.hevc_residual.specs.Head.{skipOrBypass}
 use Rattle.hevc_residual.specs.SubBlock.{Acc, placesS}
 use Rattle.hevc_residual.specs.Residual.{marked, ctxSetOf, filledS, subBlockS, subBlocksS}
-use Rattle.hevc_elements.specs.declared.head.Head.{Head}
-use Rattle.hevc_elements.specs.HeadAgree.{headOf}
+use Rattle.hevc_head.specs.declared.head.Head.{Head}
+use Rattle.hevc_head.specs.HeadAgree.{headOf}
 use Rattle.hevc_rules.specs.declared.places.Places.{Places}
 use Rattle.hevc_rules.specs.declared.coeffs.Carry.{Carry}
 use Rattle.hevc_rules.specs.Packing.{Packs, unpack, unpacked}
@@ -70,21 +70,15 @@ shown-in-range p at block levels h shown k l =
     let w : Wanted = record { skip = false; rdpcm = ofRdpcm.None; levels = block } in
     subst (λ z. natAbs z ≤ 2 ^ log2TransformRange p) (sym (shown w refl k l)) (h (cellOf p (spotIn (innerOf p) at k)))
 
--- whether any place has a level
-pub any-level : (levels : List ℤ) (r : Places) → unpacked r ≡ downFrom (isLevel levels) 16 → (lv : ℕ → Wanted → ℤ) (w : Wanted) → Shows lv w levels
-    → not (none (sigPlaces lv w)) ≡ not (eqb (r .count) 0)
-any-level levels r e lv w sh =
-    ap not (ap none (sym (e ∙ places-shown lv w levels sh)) ∙ unpack-none (r .count) (r .packed))
-
 -- ---- one sub-block, call after call
 module _ (p : Params) (h : Head) (last lastin i xs ys : ℕ) (q : getD (outerOf p) i (spot 0 0) ≡ spot xs ys) (block : List ℤ) (coded : List Bool) (c : Carry)
-    (stats : List ℕ) (levels : List ℤ) (shown : (w : Wanted) → w .levels ≡ block → Shows (wantedIn p (innerOf p) (spot xs ys)) w levels)
-    (all : Places) (ea : unpacked all ≡ downFrom (isLevel levels) 16) (wid : ℕ) (ew : wid ≡ width p) (beside : ℕ) (en : beside ≡ near coded wid xs ys) (mid : Bool)
+    (stats : List ℕ) (bare : Bool) (ea : (w : Wanted) → w .levels ≡ block → bare ≡ none (sigPlaces (wantedIn p (innerOf p) (spot xs ys)) w))
+    (wid : ℕ) (ew : wid ≡ width p) (beside : ℕ) (en : beside ≡ near coded wid xs ys) (mid : Bool)
     (em : mid ≡ (ltb 0 i && ltb i last)) (number : ℕ) (eo : number ≡ flagNumber (p .luma) beside) (s₀ s₁ : Sheet)
-    (F : (want : Wanted → Bool) (w : Wanted) → (mid ≡ true → want w ≡ not (eqb (all .count) 0))
-    → Wrote (flagOr mid number want) (done (cond mid (not (eqb (all .count) 0)) true)) w s₀ s₁) where
+    (F : (want : Wanted → Bool) (w : Wanted) → (mid ≡ true → want w ≡ not bare)
+    → Wrote (flagOr mid number want) (done (cond mid (not bare) true)) w s₀ s₁) where
   abbrev flag : Bool
-  flag = cond mid (not (eqb (all .count) 0)) true
+  flag = cond mid (not bare) true
 
   near-is : beside ≡ near coded (width p) xs ys
   near-is = en ∙ ap (λ n. near coded n xs ys) ew
@@ -105,7 +99,7 @@ module _ (p : Params) (h : Head) (last lastin i xs ys : ℕ) (q : getD (outerOf 
         subst (λ z. Wrote whole z w s₀ s₀)
         (sub-code p h last lastin i xs ys q (record { carry = c .carry; first = c .first; column = column }) coded filled stats) (wrote-none w whole s₀) in
         let m : number ≡ n = eo ∙ flag-number-is coded (width p) xs ys (p .luma) beside near-is in
-        let so : wants w ≡ not (eqb (all .count) 0) = any-level levels all ea (wantedIn p (innerOf p) (spot xs ys)) w (shown w ewl) in
+        let so : wants w ≡ not bare = ap not (sym (ea w ewl)) in
         let y : Wrote t (done flag) w s₀ s₁ =
         subst (λ (z : Bool). Wrote (flagOr z n wants) (done flag) w s₀ s₁) em
         (subst (λ k. Wrote (flagOr mid k wants) (done flag) w s₀ s₁) m (F wants w (λ _. so))) in
@@ -122,6 +116,7 @@ module _ (p : Params) (h : Head) (last lastin i xs ys : ℕ) (q : getD (outerOf 
 
   module _ (e : flag ≡ true) (single : Bool) (es : single ≡ (p .«skip_context» && skipOrBypass p (h .skip))) (below : ℕ)
       (eb : below ≡ cond (eqb i last) lastin 16) (met : Places) (em′ : Met i last lastin met) (s : Places) (s₂ : Sheet)
+      (levels : List ℤ) (shown : (w : Wanted) → w .levels ≡ block → Shows (wantedIn p (innerOf p) (spot xs ys)) w levels)
       (P : (lv : ℕ → Wanted → ℤ) (w : Wanted) → Shows lv w levels
       → Wrote (placesS lv (sigNumber p single beside xs ys) mid below (unpacked met)) (done (unpacked s)) w s₁ s₂) where
     at-places : (w : Wanted) → w .levels ≡ block → (filled : List ℤ) (column : ℕ)

@@ -3,7 +3,7 @@ use crate::greater::is_greater2;
 use crate::greater::put_greater1;
 use crate::levels::put_levels;
 use crate::signs::signs_of;
-use hevc_elements::head::Head;
+use hevc_head::head::Head;
 use hevc_level_rules::coeffs::aligns;
 use hevc_level_rules::coeffs::eight;
 use hevc_level_rules::coeffs::greater1_base;

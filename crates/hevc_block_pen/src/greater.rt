@@ -1,9 +1,9 @@
 // coeff_abs_level_greater1_flag of the first eight levels at most, and the one level that may have coeff_abs_level_greater2_flag.
-use hevc_extents::magnitude;
 use hevc_level_rules::greater::carry_next;
 use hevc_rules::places::Places;
 use pen::room::Pen;
 use pen::room::put_bin;
+use tree_shapes::levels::magnitude;
 ghost use mathlib.Core.Path.{_≡_};
 ghost use mathlib.Core.Bool.{false};
 ghost use Prim.Native.Nat.{ℕ, _+_, _^_, _≤_, _<_, min};

@@ -1,11 +1,11 @@
 // Remainders, highest place first.
-use hevc_extents::magnitude;
 use hevc_level_rules::levels::base_of;
 use hevc_level_rules::levels::behind;
 use hevc_pen::remainder::put_remainder;
 use hevc_residual::params::Params;
 use hevc_rules::levels::Going;
 use pen::room::Pen;
+use tree_shapes::levels::magnitude;
 ghost use mathlib.Core.Path.{_≡_};
 ghost use mathlib.Core.Bool.{Bool, cond};
 ghost use Prim.Native.Nat.{ℕ, _+_, _-_, _^_, _≤_, _<_};

@@ -26,7 +26,8 @@ pub struct PutPlaces {
     pub pen: Pen,
 }
 
-// The places below `below`, behind those met already.
+// The places below `below`, behind those met already. order is the scan of the sub-block's places, map the contexts of 4x4; single, neighbours and (xs, ys), where it stands,
+// choose a flag's context; infer says that its lowest place may be inferred.
 pub fn put_places(
     room: &mut [u8],
     pen: Pen,

@@ -1,7 +1,7 @@
 // Sub-blocks from the last one down.
 use crate::coeffs::put_coeffs;
 use crate::places::put_places;
-use hevc_elements::head::Head;
+use hevc_head::head::Head;
 use hevc_residual::params::Params;
 use hevc_rules::coeffs::Carry;
 use hevc_rules::sizes::width_of;
@@ -14,8 +14,8 @@ use hevc_rules::subs::neighbours_of;
 use hevc_rules::subs::places_below;
 use hevc_scans::numbers::number_in;
 use hevc_scans::significance::map4;
+use hevc_wanted::sub::is_bare;
 use hevc_wanted::sub::levels_of;
-use hevc_wanted::sub::places_of;
 use pen::room::Pen;
 use pen::room::put_bin;
 ghost use mathlib.Core.Path.{_≡_};
@@ -59,6 +59,8 @@ pub struct PutSub {
     pub pen: Pen,
 }
 
+// Sub-block number i of those up to number last, in which the last significant place is lastin. order is the scan of its places, map the contexts of
+// 4x4, coded which sub-blocks were coded by now, w how many stand in a row, (xs, ys) where this one does, c what the one before it left.
 pub fn put_sub_block(
     room: &mut [u8],
     pen: Pen,
@@ -80,17 +82,16 @@ pub fn put_sub_block(
     requires { ⌜ (now order ≡ pairsOf (innerOf p)) × (now map ≡ mapRows) × Site p xs ys × (length (now coded) ≡ width p * width p) × (length (now block) ≡ area p) × AllInRange p (now block) × Statistics (now stats) × Carries c × (getD (outerOf p) i (spot 0 0) ≡ spot xs ys) × (lastin ≤ 15) × (i ≤ last) × (p .log2 ≡ 2 → i ≡ last) × (w ≡ width p) ⌝ }
     ensures { λ r. ⌜ (length (now (coded .exit)) ≡ width p * width p) × Statistics (now (stats .exit)) × Carries (r .carry) × GoesSub p h last lastin i (now (block .entry)) (now (coded .entry)) c (now (stats .entry)) (now (coded .exit)) (r .carry) (now (stats .exit)) (sheet (now (room .entry)) pen) (sheet (now (room .exit)) (r .pen)) ⌝ }
 {
-    let levels = levels_of(block, order, p, xs, ys);
-    let all = places_of(&levels);
     let neighbours = neighbours_of(coded, w, xs, ys);
     let middle = is_middle(i, last);
-    let flag = all.count != 0;
+    let flag = !is_bare(block, p, xs, ys);
     let number = flag_number(p.luma, neighbours);
     let y = put_coded_flag(room, pen, middle, number, flag);
     if !coded_now(middle, flag) {
         return PutSub { carry: c, pen: y };
     }
     coded[(ys * w + xs) as usize] = true;
+    let levels = levels_of(block, order, p, xs, ys);
     let r = put_places(
         room,
         y,

@@ -1,6 +1,6 @@
 // coeff_abs_level_remaining.
-use hevc_elements::remainder::escape_length;
-use hevc_elements::remainder::range_bits;
+use hevc_remainder::remainder::escape_length;
+use hevc_remainder::remainder::range_bits;
 use hevc_residual::params::Params;
 use pen::remainder::eg_count;
 use pen::remainder::eg_rest;
@@ -12,7 +12,7 @@ ghost use Prim.Native.Nat.{ℕ, _^_, _≤_, _<_};
 ghost use Rattle.bins.specs.Syn.{done};
 ghost use Rattle.hevc_residual.specs.Wanted.{Wanted};
 ghost use Rattle.hevc_residual.specs.Remainder.{log2TransformRange, egkS, limitedS, remainderS};
-ghost use Rattle.hevc_elements.specs.RemainderAgree.{escapeS};
+ghost use Rattle.hevc_remainder.specs.RemainderAgree.{escapeS};
 ghost use Rattle.pen.specs.Sheet.{sheet, Wrote};
 
 // Exp-Golomb of order k.

@@ -3,14 +3,14 @@ use Prim.Native.Nat.{ℕ, _-_, _/_, _%_}
 use mathlib.Core.Path.{_≡_}
 use mathlib.Core.Bool.{Bool, not, Bool·beq}
 use mathlib.Core.List.{List}
-use lib.IntN.{ℤ, pos}
+use lib.IntN.{ℤ, pos, negsuc}
 use lib.ListN.{getD}
 use Rattle.bins.specs.Readers.{odd}
 use Rattle.hevc_residual.specs.declared.params.Params.{Params}
 use Rattle.hevc_residual.specs.Scan.{Spot}
 use Rattle.hevc_residual.specs.Wanted.{Wanted, negative, lastOf, innerOf, wantedIn, sigPlaces}
 use Rattle.hevc_residual.specs.Refusal.{disagrees}
-use Rattle.hevc_elements.specs.declared.head.Head.{Head}
+use Rattle.hevc_head.specs.declared.head.Head.{Head}
 use Rattle.hevc_rules.specs.declared.places.Places.{Places}
 use Rattle.hevc_rules.specs.Packing.{unpack}
 use Rattle.hevc_wanted.specs.Shown.{sumBelow}
@@ -36,3 +36,8 @@ signOff levels s = not (Bool·beq (negative (getD levels (lowestOf s) (pos 0))) 
 -- 11 in sub-block s of the block wanted
 abbrev pub disagreesIn : Params → Wanted → Spot → Bool
 disagreesIn p w s = disagrees p w (wantedIn p (innerOf p) s) (sigPlaces (wantedIn p (innerOf p) s) w)
+
+-- how far a level reaches: it is in the range of T iff this is below 2 ^ T
+abbrev pub reachOf : ℤ → ℕ
+reachOf (pos n) = n
+reachOf (negsuc n) = n

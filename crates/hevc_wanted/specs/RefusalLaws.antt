@@ -1,27 +1,28 @@
 -- Laws of what a writer refuses: each loop of the code, each way out of it, and what a block that is not refused has. Assumes nothing.
-use Prim.Native.Nat.{ℕ, zero, suc, _+_, _-_, _*_, _/_, _%_, _^_, _≤_, _<_}
+use Prim.Native.Nat.{ℕ, zero, suc, _+_, _-_, _*_, _/_, _%_, _^_, _≤_, _<_, max}
 use mathlib.Core.Path.{_≡_, refl, sym, ap, ap₂, _∙_}
 use mathlib.Core.Bool.{Bool, true, false, not, _&&_, _||_, cond, Bool·beq}
-use mathlib.Core.List.{List, _∷_}
+use mathlib.Core.List.{List, [], _∷_}
 use native.Mathlib.Omega.{arith}
 use native.Mathlib.Numerals.{add-one}
 use lib.IntN.{ℤ, pos, negsuc, natAbs}
-use lib.Signed.{ltZ}
-use lib.Dec.{eqb}
+use lib.Dec.{eqb, leb, ltb}
+use lib.Pow.{pow-pos, pow-mono}
 use lib.ListN.{length, getD, drop, drop-of-length-le}
 use lib.Seq.{drop-cons}
-use borrow.Author.Tests.{ltb-false, le-ltb, eq-eqb, ne-eqb}
+use borrow.Author.Tests.{ltb-true, ltb-false, leb-true, leb-false, le-leb, lt-leb, eq-eqb, ne-eqb}
 use Rattle.bins.specs.Engine.{bitNo}
 use Rattle.bins.specs.Readers.{odd}
 use Rattle.hevc_residual.specs.declared.params.Params.{Params}
 use Rattle.hevc_residual.specs.declared.params.Rdpcm.{Rdpcm}
 use Rattle.hevc_residual.specs.Scan.{Spot, spot}
-use Rattle.hevc_residual.specs.Wanted.{Wanted, negative, outerOf, innerOf, downFrom, isSig, sigPlaces}
+use Rattle.hevc_residual.specs.Wanted.{Wanted, negative, outerOf, innerOf, downFrom, isSig, sigPlaces, wantedIn, none}
 use Rattle.hevc_residual.specs.Head.{skipCoded, rdpcmCoded, rdpcmFlag}
 use Rattle.hevc_residual.specs.Remainder.{log2TransformRange, inRange}
+use Rattle.hevc_residual.specs.SubBlock.{signHidden}
 use Rattle.hevc_residual.specs.Refusal.{allZero, notCoded, tooFar, sumOver, disagrees, anyDisagrees, writeRefusal}
 use Rattle.hevc_scans.specs.ScanLaws.{scan-order, square-is}
-use Rattle.hevc_elements.specs.declared.head.Head.{Head}
+use Rattle.hevc_head.specs.declared.head.Head.{Head}
 use Rattle.hevc_rules.specs.declared.places.Places.{Places}
 use Rattle.hevc_rules.specs.Packing.{unpack, unpacked}
 use Rattle.hevc_rules.specs.PackingLaws.{unpack-last, sixteen-pow}
@@ -29,7 +30,7 @@ use Rattle.hevc_rules.specs.CoeffsAgree.{hides}
 use Rattle.hevc_residual.specs.Limits.{Accepted}
 use Rattle.hevc_wanted.specs.Shown.{Shows, isLevel, sumBelow}
 use Rattle.hevc_wanted.specs.ShownLaws.{places-shown}
-use Rattle.hevc_wanted.specs.RefusalAgree.{Chosen, Handed, lowestOf, signOff, disagreesIn}
+use Rattle.hevc_wanted.specs.RefusalAgree.{Chosen, Handed, lowestOf, signOff, disagreesIn, reachOf}
 
 -- ---- choices of the code
 pub and-on : (a b r : Bool) → a ≡ true → r ≡ b → r ≡ (a && b)
@@ -80,34 +81,72 @@ unfolding allZero
 zeros-end l i z h = sym (ap allZero (drop-of-length-le l h)) ∙ z .left
 
 -- ---- 8
-pub negative-is : (z : ℤ) → ltZ z (pos 0) ≡ negative z
-negative-is (pos n) = le-ltb n 0 (omega arith)
-negative-is (negsuc n) = refl
+-- what is in range is told by how far it reaches
+pub reach-range : (t : ℕ) (z : ℤ) → not (inRange t (negative z) (natAbs z)) ≡ leb (2 ^ t) (reachOf z)
+reach-range t (pos n) = go (ltb n (2 ^ t)) refl
+  where
+    go : (d : Bool) → ltb n (2 ^ t) ≡ d → not d ≡ leb (2 ^ t) n
+    go true q = sym (lt-leb (2 ^ t) n (ltb-true n (2 ^ t) q))
+    go false q = sym (le-leb (2 ^ t) n (ltb-false n (2 ^ t) q))
+reach-range t (negsuc n) = go (leb (suc n) (2 ^ t)) refl
+  where
+    go : (d : Bool) → leb (suc n) (2 ^ t) ≡ d → not d ≡ leb (2 ^ t) n
+    go true q = sym (lt-leb (2 ^ t) n (leb-true (suc n) (2 ^ t) q))
+    go false q = sym (le-leb (2 ^ t) n (omega (arith, leb-false (suc n) (2 ^ t) q)))
 
-pub record Near (t : ℕ) (l : List ℤ) (i : ℕ) : Type 0 where
+pub reach-low : (z : ℤ) (m : ℕ) → m ≡ natAbs z → negative z ≡ true → (1 ≤ m) × (m - 1 ≡ reachOf z)
+reach-low (pos n) m e q = let z : _≡_ {A = ℕ} 0 1 = cc in absurd (omega arith)
+reach-low (negsuc n) m e q = (omega arith, omega arith)
+
+pub reach-high : (z : ℤ) (m : ℕ) → m ≡ natAbs z → negative z ≡ false → m ≡ reachOf z
+reach-high (pos n) m e q = e
+reach-high (negsuc n) m e q = let z : _≡_ {A = ℕ} 0 1 = cc in absurd (omega arith)
+
+most-either : (k a b : ℕ) → leb k (max a b) ≡ (leb k a || leb k b)
+most-either k a b = go (leb k a) (leb k b) refl refl
+  where
+    go : (d e : Bool) → leb k a ≡ d → leb k b ≡ e → leb k (max a b) ≡ (d || e)
+    go true e q r = le-leb k (max a b) (omega (arith, leb-true k a q))
+    go false true q r = le-leb k (max a b) (omega (arith, leb-true k b r))
+    go false false q r = lt-leb k (max a b) (omega (arith, leb-false k a q, leb-false k b r))
+
+or-assoc : (a b c : Bool) → ((a || b) || c) ≡ (a || (b || c))
+or-assoc true b c = refl
+or-assoc false b c = refl
+
+-- the levels before place i reach as far as most
+pub record Reaches (t : ℕ) (l : List ℤ) (i most : ℕ) : Type 0 where
   pub few : i ≤ length l
-  pub left : tooFar t (drop i l) ≡ tooFar t l
+  pub left : (leb (2 ^ t) most || tooFar t (drop i l)) ≡ tooFar t l
 
-pub near-begins : (t : ℕ) (l : List ℤ) → Near t l 0
-near-begins t l = record { few = omega arith; left = refl }
+pub reaches-begins : (t : ℕ) (l : List ℤ) → Reaches t l 0 0
+reaches-begins t l = record { few = omega arith; left = ap (λ (b : Bool). b || tooFar t l) (lt-leb (2 ^ t) 0 (pow-pos t)) }
 
-module _ (t : ℕ) (l : List ℤ) (i : ℕ) (z : Near t l i) (h : i < length l) (far : Bool)
-    (q : far ≡ not (inRange t (negative (getD l i (pos 0))) (natAbs (getD l i (pos 0))))) where
-  near-next : tooFar t l ≡ (far || tooFar t (drop (i + 1) l))
-  unfolding tooFar
-  near-next =
-      let d : drop i l ≡ getD l i (pos 0) ∷ drop (suc i) l = drop-cons l i (pos 0) h in
-      sym (z .left) ∙ ap (λ (m : List ℤ). tooFar t m) d ∙ rw (add-one i, ← q)
-
-  pub near-on : far ≡ false → Near t l (i + 1)
-  near-on n = record { few = omega arith; left = sym (near-next ∙ ap (λ (b : Bool). b || tooFar t (drop (i + 1) l)) n) }
-
-  pub near-not : far ≡ true → true ≡ tooFar t l
-  near-not n = sym (near-next ∙ ap (λ (b : Bool). b || tooFar t (drop (i + 1) l)) n)
-
-pub near-ends : (t : ℕ) (l : List ℤ) (i : ℕ) → Near t l i → length l ≤ i → false ≡ tooFar t l
+pub reaches-on : (t : ℕ) (l : List ℤ) (i most : ℕ) → Reaches t l i most → i < length l → (r : ℕ) → r ≡ reachOf (getD l i (pos 0)) → Reaches t l (i + 1) (max most r)
 unfolding tooFar
-near-ends t l i z h = sym (ap (λ (m : List ℤ). tooFar t m) (drop-of-length-le l h)) ∙ z .left
+reaches-on t l i most z h r q =
+    let d : drop i l ≡ getD l i (pos 0) ∷ drop (suc i) l = drop-cons l i (pos 0) h in
+    let e : tooFar t (drop i l) ≡ (leb (2 ^ t) r || tooFar t (drop (i + 1) l)) =
+    ap (λ (m : List ℤ). tooFar t m) d
+    ∙ ap₂ (λ (b : Bool) (k : ℕ). b || tooFar t (drop k l)) (reach-range t (getD l i (pos 0)) ∙ ap (leb (2 ^ t)) (sym q)) (sym (add-one i)) in
+    record {
+      few = omega arith;
+      left =
+          ap (λ (b : Bool). b || tooFar t (drop (i + 1) l)) (most-either (2 ^ t) most r) ∙ or-assoc (leb (2 ^ t) most) (leb (2 ^ t) r) (tooFar t (drop (i + 1) l))
+          ∙ ap (λ (b : Bool). leb (2 ^ t) most || b) (sym e) ∙ z .left;
+    }
+
+pub two-shift : (t : ℕ) → t ≤ 22 → 1 * 2 ^ t % 4294967296 ≡ 2 ^ t
+two-shift t h = let m : 2 ^ t ≤ 2 ^ 22 = pow-mono h in omega arith
+
+or-nothing : (a : Bool) → (a || false) ≡ a
+or-nothing true = refl
+or-nothing false = refl
+
+pub reaches-ends : (t : ℕ) (l : List ℤ) (i most : ℕ) → Reaches t l i most → length l ≤ i → leb (2 ^ t) most ≡ tooFar t l
+unfolding tooFar
+reaches-ends t l i most z h =
+    sym (ap (λ (m : List ℤ). leb (2 ^ t) most || tooFar t m) (drop-of-length-le l h) ∙ or-nothing (leb (2 ^ t) most)) ∙ z .left
 
 -- ---- 11
 pub lowest-is : (s : Places) → (s .packed / 2 ^ (4 * (s .count - 1))) % 16 ≡ lowestOf s
@@ -169,6 +208,24 @@ module _ (p : Params) (h : Head) (levels : List ℤ) (s : Places) (e : unpacked 
       let low : lowestOf s < 16 = omega (arith, lowest-is s) in
       f ∙ ap₂ (λ (v : ℤ) (m : ℕ). not (Bool·beq (negative v) (odd m))) (g (lowestOf s) low) (sym (sum-shown lv w levels g 16 (omega arith)))
       ∙ sym (disagrees-by (omega arith) true (bit-yes (hides p (h .skip) (h .rdpcm) s) r q z))
+
+-- a sub-block with no level, and a block whose signs are never hidden
+pub bare-agrees : (p : Params) (w : Wanted) (lv : ℕ → Wanted → ℤ) (ks : List ℕ) → none ks ≡ true → false ≡ disagrees p w lv ks
+unfolding disagrees none
+bare-agrees p w lv [] q = refl
+bare-agrees p w lv (k ∷ ks) q = let z : _≡_ {A = ℕ} 0 1 = cc in absurd (omega arith)
+
+shown-agrees : (p : Params) (w : Wanted) (lv : ℕ → Wanted → ℤ) (ks : List ℕ) → p .hiding ≡ false → disagrees p w lv ks ≡ false
+unfolding disagrees signHidden
+shown-agrees p w lv [] q = refl
+shown-agrees p w lv (k ∷ ks) q = rw q
+
+pub nothing-hidden : (p : Params) (w : Wanted) (inner l : List Spot) → p .hiding ≡ false → false ≡ anyDisagrees p w inner l
+unfolding anyDisagrees
+nothing-hidden p w inner [] q = refl
+nothing-hidden p w inner (s ∷ l) q =
+    nothing-hidden p w inner l q
+    ∙ sym (ap (λ (b : Bool). b || anyDisagrees p w inner l) (shown-agrees p w (wantedIn p inner s) (sigPlaces (wantedIn p inner s) w) q))
 
 -- the loop over sub-blocks
 outer-long : (p : Params) → Accepted p → length (outerOf p) ≡ 4 ^ (p .log2 - 2)

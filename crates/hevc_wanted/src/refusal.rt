@@ -1,21 +1,24 @@
 // What a writer refuses of a block, in document 01's order: 9, 10, 8, 11. Each is looked for over all n·n places.
 use crate::sub::corner_at;
+use crate::sub::greater_of;
+use crate::sub::is_bare;
 use crate::sub::levels_of;
 use crate::sub::places_of;
 use crate::sub::sum_of;
-use hevc_elements::head::Head;
-use hevc_elements::head::rdpcm_coded;
-use hevc_elements::head::skip_coded;
-use hevc_elements::remainder::in_range;
-use hevc_elements::remainder::range_bits;
-use hevc_extents::magnitude;
+use hevc_head::head::Head;
+use hevc_head::head::rdpcm_coded;
+use hevc_head::head::skip_coded;
 use hevc_level_rules::coeffs::hidden;
+use hevc_remainder::remainder::in_range;
+use hevc_remainder::remainder::range_bits;
 use hevc_residual::params::Params;
 use hevc_residual::params::Rdpcm;
 use hevc_rules::places::Places;
 use hevc_rules::sizes::grid;
 use hevc_scans::orders::inner_order;
 use hevc_scans::orders::outer_order;
+use tree_shapes::levels::is_negative;
+use tree_shapes::levels::magnitude;
 ghost use mathlib.Core.Path.{_≡_};
 ghost use mathlib.Core.Bool.{not, _&&_, _||_, Bool·beq};
 ghost use Prim.Native.Nat.{ℕ, _-_, _^_, _≤_, _<_};
@@ -30,7 +33,7 @@ ghost use Rattle.hevc_scans.specs.Pairs.{pairsOf, Orders};
 ghost use Rattle.hevc_rules.specs.Packing.{Packs};
 ghost use Rattle.hevc_residual.specs.Limits.{Accepted};
 ghost use Rattle.hevc_wanted.specs.Shown.{Shows};
-ghost use Rattle.hevc_wanted.specs.RefusalAgree.{Chosen, Handed, lowestOf, signOff, disagreesIn};
+ghost use Rattle.hevc_wanted.specs.RefusalAgree.{Chosen, Handed, lowestOf, signOff, disagreesIn, reachOf};
 
 // 9: all levels are zero.
 fn all_zero(block: &[i32]) -> bool
@@ -81,12 +84,6 @@ fn not_coded(p: Params, skip: bool, rdpcm: Rdpcm) -> bool
     rdpcm_not_coded(p, skip, rdpcm)
 }
 
-fn is_negative(v: i32) -> bool
-    ensures { λ r. ⌜ r ≡ negative v ⌝ }
-{
-    v < 0
-}
-
 // A level lies outside the coefficient range, as the smallest i32 does in every range.
 pub fn is_far(t: u32, v: i32) -> bool
     requires { ⌜ t ≤ 22 ⌝ }
@@ -95,19 +92,26 @@ pub fn is_far(t: u32, v: i32) -> bool
     !in_range(t, is_negative(v), magnitude(v))
 }
 
-// 8: a level is outside the coefficient range.
+// How far a level reaches: one that is negative has a place more.
+fn reach(v: i32) -> u32
+    ensures { λ r. ⌜ r ≡ reachOf v ⌝ }
+{
+    let m = magnitude(v);
+    if is_negative(v) { m - 1 } else { m }
+}
+
+// 8: a level is outside the coefficient range. All are looked at, several at a time, and none ends the look.
 fn too_far(t: u32, block: &[i32]) -> bool
     requires { ⌜ t ≤ 22 ⌝ }
     ensures { λ r. ⌜ r ≡ tooFar t (now (block .entry)) ⌝ }
 {
+    let mut most: u32 = 0;
     let mut at: usize = 0;
     while at < block.len() {
-        if is_far(t, block[at]) {
-            return true;
-        }
+        most = greater_of(most, reach(block[at]));
         at += 1;
     }
-    false
+    1 << t <= most
 }
 
 // The lowest of the places.
@@ -161,6 +165,9 @@ pub fn disagrees_at(
     ensures { λ r. ⌜ ((w : Wanted) → Handed h (now (block .entry)) w → r ≡ disagreesIn p w (getD (outerOf p) i (spot 0 0))) ⌝ }
 {
     let c = corner_at(outer, p, i);
+    if is_bare(block, p, c.xs, c.ys) {
+        return false;
+    }
     let levels = levels_of(block, order, p, c.xs, c.ys);
     disagrees(p, h, &levels)
 }
@@ -170,6 +177,9 @@ fn any_disagrees(block: &[i32], p: Params, h: Head) -> bool
     requires { ⌜ Accepted p × (length (now block) ≡ area p) ⌝ }
     ensures { λ r. ⌜ ((w : Wanted) → Handed h (now (block .entry)) w → r ≡ anyDisagrees p w (innerOf p) (outerOf p)) ⌝ }
 {
+    if !p.hiding {
+        return false;
+    }
     let order = inner_order(p.scan);
     let outer = outer_order(p.log2, p.scan);
     let n = grid(p.log2);

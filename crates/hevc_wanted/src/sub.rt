@@ -1,22 +1,22 @@
 // One sub-block of the block: its 16 levels in the order of its scan, which places have one, and what they come to.
-use hevc_extents::magnitude;
 use hevc_level_rules::levels::cell_of;
 use hevc_residual::params::Params;
 use hevc_rules::places::Places;
 use hevc_rules::places::appended;
+use tree_shapes::levels::magnitude;
 ghost use mathlib.Core.Path.{_≡_};
-ghost use Prim.Native.Nat.{_-_, _^_, _≤_, _<_};
+ghost use Prim.Native.Nat.{_+_, _-_, _^_, _≤_, _<_, max};
 ghost use lib.IntN.{pos, natAbs};
 ghost use lib.Dec.{ltb};
 ghost use lib.ListN.{length, getD};
 ghost use Rattle.bins.specs.Engine.{bitNo};
-ghost use Rattle.hevc_residual.specs.Wanted.{Wanted, area, outerOf, innerOf, wantedIn, downFrom, sigPlaces, cellOf, spotIn};
+ghost use Rattle.hevc_residual.specs.Wanted.{Wanted, area, outerOf, innerOf, wantedIn, downFrom, sigPlaces, cellOf, spotIn, none};
 ghost use Rattle.hevc_residual.specs.Scan.{spot};
 ghost use Rattle.hevc_scans.specs.Pairs.{pairsOf, Orders};
 ghost use Rattle.hevc_rules.specs.LevelsAgree.{Site};
 ghost use Rattle.hevc_rules.specs.Packing.{Packs, unpacked};
 ghost use Rattle.hevc_residual.specs.Limits.{Accepted};
-ghost use Rattle.hevc_wanted.specs.Shown.{Shows, isLevel, sumBelow};
+ghost use Rattle.hevc_wanted.specs.Shown.{Shows, isLevel, sumBelow, sizeAt, rowMost, rowAt};
 
 // A sub-block by its column and row.
 pub struct Corner {
@@ -42,6 +42,51 @@ fn level_at(block: &[i32], order: &[[u8; 2]; 16], p: Params, xs: u32, ys: u32, k
     let c = cell_of(order, p, xs, ys, k);
     let at = c.at;
     block[at]
+}
+
+// The greater of two.
+pub fn greater_of(a: u32, b: u32) -> u32
+    ensures { λ r. ⌜ r ≡ max a b ⌝ }
+{
+    if a < b { b } else { a }
+}
+
+// The magnitude in a cell.
+fn size_at(block: &[i32], at: usize) -> u32
+    requires { ⌜ at < length (now block) ⌝ }
+    ensures { λ r. ⌜ r ≡ sizeAt (now (block .entry)) at ⌝ }
+{
+    magnitude(block[at])
+}
+
+// The greatest magnitude of the four levels from cell `at` on.
+fn row_most(block: &[i32], at: usize) -> u32
+    requires { ⌜ at + 4 ≤ length (now block) ⌝ }
+    ensures { λ r. ⌜ r ≡ rowMost (now (block .entry)) at ⌝ }
+{
+    let a = greater_of(size_at(block, at), size_at(block, at + 1));
+    let b = greater_of(size_at(block, at + 2), size_at(block, at + 3));
+    greater_of(a, b)
+}
+
+// The first cell in row j of sub-block (xs, ys).
+fn row_at(p: Params, xs: u32, ys: u32, j: u32) -> usize
+    requires { ⌜ Site p xs ys × (j < 4) ⌝ }
+    ensures { λ r. ⌜ (r ≡ rowAt p xs ys j) × (r + 4 ≤ area p) ⌝ }
+{
+    (((4 * ys + j) << p.log2) + 4 * xs) as usize
+}
+
+// Whether sub-block (xs, ys) has no level. Its four rows are looked at as they stand, in no scan's order.
+pub fn is_bare(block: &[i32], p: Params, xs: u32, ys: u32) -> bool
+    requires { ⌜ Site p xs ys × (length (now block) ≡ area p) ⌝ }
+    ensures { λ r. ⌜ ((w : Wanted) → w .levels ≡ now (block .entry) → r ≡ none (sigPlaces (wantedIn p (innerOf p) (spot xs ys)) w)) ⌝ }
+{
+    let a = row_most(block, row_at(p, xs, ys, 0));
+    let b = row_most(block, row_at(p, xs, ys, 1));
+    let c = row_most(block, row_at(p, xs, ys, 2));
+    let d = row_most(block, row_at(p, xs, ys, 3));
+    greater_of(greater_of(a, b), greater_of(c, d)) == 0
 }
 
 // The levels of sub-block (xs, ys).
@@ -86,6 +131,12 @@ pub fn places_at(block: &[i32], order: &[[u8; 2]; 16], p: Params, xs: u32, ys: u
     requires { ⌜ (now order ≡ pairsOf (innerOf p)) × Site p xs ys × (length (now block) ≡ area p) ⌝ }
     ensures { λ r. ⌜ Packs r × ((w : Wanted) → w .levels ≡ now (block .entry) → unpacked r ≡ sigPlaces (wantedIn p (innerOf p) (spot xs ys)) w) ⌝ }
 {
+    if is_bare(block, p, xs, ys) {
+        return Places {
+            packed: 0,
+            count: 0,
+        };
+    }
     let levels = levels_of(block, order, p, xs, ys);
     places_of(&levels)
 }

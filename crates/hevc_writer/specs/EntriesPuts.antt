@@ -1,14 +1,14 @@
 -- The entry point: what its answers say, and its ways out. Assumes nothing.
 use Prim.Native.Nat.{ℕ, zero, suc, _+_, _≤_, _<_}
 use mathlib.Core.Path.{_≡_, refl, sym, ap, subst, _∙_}
-use mathlib.Core.Bool.{Bool, true, false, cond}
+use mathlib.Core.Bool.{Bool, true, false, not, cond}
 use mathlib.Core.List.{List, [], _∷_, _++_}
 use native.Mathlib.Omega.{arith}
 use lib.IntN.{ℤ}
 use lib.ListN.{length, take, drop}
 use lib.Seq.{length-take-le}
-use lib.Dec.{ltb}
-use borrow.Author.Tests.{lt-ltb, le-ltb}
+use lib.Dec.{ltb, leb}
+use borrow.Author.Tests.{lt-ltb, le-ltb, lt-leb, le-leb, leb-true, leb-false}
 use Rattle.bins.specs.Syn.{done, Written, write}
 use Rattle.cabac.specs.Numbers.{Answer, accepted, refused, _orElse_}
 use Rattle.hevc_residual.specs.declared.params.Params.{Params}
@@ -21,7 +21,9 @@ use Rattle.hevc_residual.specs.Entries.{BinsWritten, wantedFrom, notWritten, wr
 use Rattle.hevc_residual.specs.Limits.{Accepted, Statistics}
 use Rattle.hevc_residual.specs.LimitLaws.{parameter-passed, statistics-passed}
 use Rattle.hevc_rules.specs.ChecksAgree.{binsChecks}
+use Rattle.hevc_exact.specs.RefusalLaws.{refusal-near}
 use Rattle.hevc_exact.specs.Exact as exact
+use Rattle.hevc_longest.specs.Longest.{longest, longest-enough}
 use Rattle.pen.specs.declared.room.Pen.{Pen}
 use Rattle.pen.specs.Sheet.{Sheet, sheet, enteredAll, Wrote}
 use Rattle.hevc_writer.specs.declared.entries.Written as code
@@ -58,6 +60,34 @@ spelled-sheet p w stats stats′ s s′ h a l q =
     let ea : h .answer ≡ a = cc in
     let em : e .0 ≡ [] = cc in
     (e .2 ∙ ap (λ (z : List ℕ). enteredAll z s′) em, sym (ap (λ (z : Block). z .stats) ea) ∙ h .statsAre)
+
+-- ---- whether the list of what is wanted goes into the room
+abbrev pub Goes : Params → List ℕ → Wanted → List ℕ → Bool → Type 0
+Goes p stats w room fit = (a : Block) (l : List ℕ) → write (residual p stats) w ≡ Written.ok a l → fit ≡ leb (length l) (length room)
+
+module _ (p : Params) (stats : List ℕ) (w : Wanted) (room : List ℕ) (acc : Accepted p) (long : length (w .levels) ≡ area p) (small : Statistics stats)
+    (ok : writeRefusal p w ≡ 0) where
+  -- a room for the longest list
+  pub surely-goes : (n : ℕ) → n ≡ longest (p .log2) → n ≤ length room → Goes p stats w room true
+  surely-goes n e h a l q =
+      sym (le-leb (length l) (length room) (omega (arith, longest-enough p acc stats small w (refusal-near p w ok) a l q)))
+
+  -- counted out
+  module _ (st room′ : List ℕ) (pen : Pen) (c : Spells p w stats st (sheet room (penAt 0 false false)) (sheet room′ pen)) where
+    counted : (a : Block) (l : List ℕ) → write (residual p stats) w ≡ Written.ok a l → enteredAll l (sheet room (penAt 0 false false)) ≡ sheet room′ pen
+    counted a l q = spelled-sheet p w stats st (sheet room (penAt 0 false false)) (sheet room′ pen) c a l q .0
+
+    pub counted-stands : room′ ≡ room
+    counted-stands =
+        let t = exact.written p acc stats w small long ok in
+        counted-same room (t .0) room′ pen (counted (t .1 .answer) (t .0) (t .2))
+
+    pub counted-goes : Goes p stats w room (not (pen .over))
+    counted-goes a l q = go (pen .over) refl
+      where
+        go : (d : Bool) → pen .over ≡ d → not d ≡ leb (length l) (length room)
+        go true o = sym (lt-leb (length l) (length room) (counted-long room l room′ pen (counted a l q) o))
+        go false o = sym (le-leb (length l) (length room) (counted-short room l room′ pen (counted a l q) o))
 
 module _ (p : Params) (stats : List ℕ) (block : List ℤ) (skip : Bool) (rdpcm : Rdpcm) (room : List ℕ) where
   abbrev w : Wanted
@@ -113,36 +143,31 @@ module _ (p : Params) (stats : List ℕ) (block : List ℤ) (skip : Bool) (rdpcm
         unfolding writeBinsBy
         lists = ap (writeList stats room) (sym (list .2)) ∙ by 0 (passed .2 ∙ none)
 
-        -- counted out
-        module _ (st room′ : List ℕ) (pen : Pen) (c : Spells p (wantedOf skip rdpcm levels) stats st (sheet room (penAt 0 false false)) (sheet room′ pen)) where
-          counted : enteredAll (list .0) (sheet room (penAt 0 false false)) ≡ sheet room′ pen
-          counted =
-              spelled-sheet p w stats st (sheet room (penAt 0 false false)) (sheet room′ pen)
-              (subst (λ (z : Wanted). Spells p z stats st (sheet room (penAt 0 false false)) (sheet room′ pen)) same c) (list .1 .answer) (list .0) (list .2) .0
-
-          pub room-same : room′ ≡ room
-          room-same = counted-same room (list .0) room′ pen counted
+        -- whether the list goes into the room, which stands as it was
+        module _ (room′ : List ℕ) (stands : room′ ≡ room) (fit : Bool) (goes : Goes p stats (wantedOf skip rdpcm levels) room fit) where
+          fit-is : fit ≡ leb (length (list .0)) (length room)
+          fit-is = subst (λ (z : Wanted). Goes p stats z room fit) same goes (list .1 .answer) (list .0) (list .2)
 
           -- 12
-          pub no-room : pen .over ≡ true → binsWritten (listed.Refused 12) stats room′ ≡ writeBins p stats block skip rdpcm room
+          pub no-room : fit ≡ false → binsWritten (listed.Refused 12) stats room′ ≡ writeBins p stats block skip rdpcm room
           unfolding writeList writeListBy roomRefusal
           no-room o =
-              let h : length room < length (list .0) = counted-long room (list .0) room′ pen counted o in
+              let h : length room < length (list .0) = leb-false (length (list .0)) (length room) (sym fit-is ∙ o) in
               let e : roomRefusal (list .0) room ≡ 12 = ap (λ b. cond b 12 0) (lt-ltb (length room) (length (list .0)) h) in
-              ap (λ r. binsWritten (listed.Refused 12) stats r) room-same
+              ap (λ r. binsWritten (listed.Refused 12) stats r) stands
               ∙ ap (λ n. writeListBy n (list .0) (list .1 .answer .stats) stats room) (sym e) ∙ lists
 
           -- written
-          pub all-written : pen .over ≡ false → (st′ room″ : List ℕ) (pen′ : Pen)
+          pub all-written : fit ≡ true → (st′ room″ : List ℕ) (pen′ : Pen)
               → Spells p (wantedOf skip rdpcm levels) stats st′ (sheet room′ (penAt 0 false true)) (sheet room″ pen′)
               → binsWritten (listed.List (pen′ .at)) st′ room″ ≡ writeBins p stats block skip rdpcm room
           unfolding writeList writeListBy roomRefusal
           all-written o st′ room″ pen′ d =
               let l = list .0 in
-              let h : length l ≤ length room = counted-short room l room′ pen counted o in
+              let h : length l ≤ length room = leb-true (length l) (length room) (sym fit-is ∙ o) in
               let e : roomRefusal l room ≡ 0 = ap (λ b. cond b 12 0) (le-ltb (length room) (length l) h) in
               let d′ : Spells p w stats st′ (sheet room (penAt 0 false true)) (sheet room″ pen′) =
-              subst (λ (z : List ℕ). Spells p w stats st′ (sheet z (penAt 0 false true)) (sheet room″ pen′)) room-same
+              subst (λ (z : List ℕ). Spells p w stats st′ (sheet z (penAt 0 false true)) (sheet room″ pen′)) stands
               (subst (λ (z : Wanted). Spells p z stats st′ (sheet room′ (penAt 0 false true)) (sheet room″ pen′)) same d) in
               let f = spelled-sheet p w stats st′ (sheet room (penAt 0 false true)) (sheet room″ pen′) d′ (list .1 .answer) l (list .2) in
               let g : sheet room″ pen′ ≡ sheet (l ++ drop (length l) room) (penAt (length l) false true) = sym (f .0) ∙ written-all l room h in

@@ -1,7 +1,8 @@
 // The entry point: a block as a list of bins in a lent room.
 // It takes anything: what document 01 does not accept is answered by its number.
 use hevc_block_pen::subs::put_sub_blocks;
-use hevc_elements::head::Head;
+use hevc_head::head::Head;
+use hevc_longest::longest_list;
 use hevc_pen::head::put_head;
 use hevc_residual::params::Params;
 use hevc_residual::params::Rdpcm;
@@ -21,7 +22,7 @@ ghost use Rattle.hevc_residual.specs.Limits.{Accepted, Statistics};
 ghost use Rattle.hevc_residual.specs.Entries.{writeBins};
 ghost use Rattle.pen.specs.Sheet.{sheet};
 ghost use Rattle.hevc_block_pen.specs.BlockPuts.{wantedOf, Spells};
-ghost use Rattle.hevc_writer.specs.EntriesPuts.{binsWritten};
+ghost use Rattle.hevc_writer.specs.EntriesPuts.{binsWritten, Goes};
 ghost use Rattle.hevc_writer.specs.Demand3.{Exactly};
 
 // A list by its length, or the number of the refusal.
@@ -58,7 +59,32 @@ pub fn put_block(
     put_sub_blocks(room, y, block, &order, &outer, &mut coded[..n], stats, p, h)
 }
 
-// One block of at least n·n levels. The room is counted out before anything is written.
+// Whether the block's list goes into the room, of which nothing is changed. A room for the longest list of its size needs no count.
+fn has_room(
+    room: &mut [u8],
+    block: &[i32],
+    stats: &[u8; 4],
+    p: Params,
+    skip: bool,
+    rdpcm: Rdpcm,
+) -> bool
+    requires { ⌜ Accepted p × (length (now block) ≡ area p) × Statistics (now stats) × (writeRefusal p (wantedOf skip rdpcm (now block)) ≡ 0) ⌝ }
+    ensures { λ r. ⌜ (now (room .exit) ≡ now (room .entry)) × Goes p (now (stats .entry)) (wantedOf skip rdpcm (now (block .entry))) (now (room .entry)) r ⌝ }
+{
+    if longest_list(p.log2) <= room.len() {
+        return true;
+    }
+    let count = Pen {
+        at: 0,
+        over: false,
+        writing: false,
+    };
+    let mut st = *stats;
+    let counted = put_block(room, count, block, &mut st, p, skip, rdpcm);
+    !counted.over
+}
+
+// One block of at least n·n levels. That the room is enough is known before anything is written.
 pub fn write_bins(
     p: Params,
     stats: &mut [u8; 4],
@@ -78,14 +104,7 @@ pub fn write_bins(
     if b != 0 {
         return Written::Refused(b);
     }
-    let count = Pen {
-        at: 0,
-        over: false,
-        writing: false,
-    };
-    let mut st = *stats;
-    let counted = put_block(room, count, levels, &mut st, p, skip, rdpcm);
-    if counted.over {
+    if !has_room(room, levels, stats, p, skip, rdpcm) {
         return Written::Refused(12);
     }
     let write = Pen {

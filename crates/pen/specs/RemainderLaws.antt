@@ -14,8 +14,8 @@ use Rattle.trees.specs.ShapeLaws.{eg-suc}
 use Rattle.hevc_residual.specs.declared.params.Params.{Params}
 use Rattle.hevc_residual.specs.Wanted.{Wanted, S}
 use Rattle.hevc_residual.specs.Remainder.{log2TransformRange, egBase, egkS, limitedS, remainderS}
-use Rattle.hevc_elements.specs.RemainderLaws.{range-within, shl-32}
-use Rattle.hevc_elements.specs.RemainderAgree.{escapeLength, escapeS}
+use Rattle.hevc_remainder.specs.RemainderLaws.{range-within, shl-32}
+use Rattle.hevc_remainder.specs.RemainderAgree.{escapeLength, escapeS}
 use Rattle.pen.specs.Sheet.{Sheet, Wrote, Counts}
 use Rattle.pen.specs.SheetLaws.{wrote-then, wrote-call}
 use Rattle.pen.specs.PlainLaws.{pick, passed, taken, escaped-written}

@@ -1,5 +1,5 @@
 // coeff_abs_level_remaining.
-use hevc_elements::remainder::whole_of;
+use hevc_remainder::remainder::whole_of;
 ghost use mathlib.Core.Path.{_≡_};
 ghost use Prim.Native.Nat.{_-_, _≤_};
 ghost use Rattle.hevc_residual.specs.Remainder.{egBase};

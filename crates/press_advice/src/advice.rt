@@ -4,7 +4,7 @@ use crate::search::first_off;
 use crate::search::first_taken;
 use crate::search::refusal;
 use crate::strokes::stroke_at;
-use hevc_elements::remainder::range_bits;
+use hevc_remainder::remainder::range_bits;
 use hevc_residual::params::Params;
 use hevc_rules::checks::parameter_refusal;
 use hevc_rules::sizes::area_of;

@@ -1,7 +1,7 @@
 // The first place, sub-block or change of which a test holds; as many as there are, where it holds of none.
 use crate::strokes::magnitude_at;
 use crate::strokes::stroke_at;
-use hevc_elements::head::Head;
+use hevc_head::head::Head;
 use hevc_residual::params::Params;
 use hevc_residual::params::Rdpcm;
 use hevc_rules::sizes::area_of;

@@ -1,5 +1,6 @@
 // The single changes of a level that is not 0: stroke 0 makes its magnitude one more, stroke 1 one less, stroke 2 turns its sign.
-use hevc_extents::magnitude;
+use tree_shapes::levels::is_negative;
+use tree_shapes::levels::magnitude;
 ghost use mathlib.Core.Path.{_≡_};
 ghost use mathlib.Core.Bool.{not, cond};
 ghost use Prim.Native.Nat.{_+_, _-_, _≤_, _<_};
@@ -14,12 +15,6 @@ pub fn magnitude_at(levels: &[i32; 1024], i: usize) -> u32
     ensures { λ r. ⌜ r ≡ natAbs (getD (now (levels .entry)) i (pos 0)) ⌝ }
 {
     magnitude(levels[i])
-}
-
-fn is_negative(v: i32) -> bool
-    ensures { λ r. ⌜ r ≡ negative v ⌝ }
-{
-    v < 0
 }
 
 fn negative_at(levels: &[i32; 1024], i: usize) -> bool

@@ -17,7 +17,8 @@ same-length : tie.Need-same-length
 same-length c = search needs
 
 returns : tie.Need-returns
-returns c = let a = c .before .before .before .before .before .before .args in subst (Aligned (a .due) (sheet (a .room .now) (a .pen))) (sym (c .before .before .put-align .ensures)) (aligned-due (a .due) (sheet (a .room .now) (a .pen)) (c .before .before .before .before .if1 .taken))
+returns c = let a = c .before .before .before .before .before .before .args in subst (Aligned (a .due) (sheet (a .room .now) (a .pen)))
+    (sym (c .before .before .put-align .ensures)) (aligned-due (a .due) (sheet (a .room .now) (a .pen)) (c .before .before .before .before .if1 .taken))
 
 returns-2 : tie.Need-returns-2
 returns-2 c = let a = c .before .before .args in aligned-not (a .due) (sheet (a .room .now) (a .pen)) (c .if1 .left)

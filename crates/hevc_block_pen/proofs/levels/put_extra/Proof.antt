@@ -17,7 +17,8 @@ same-length : tie.Need-same-length
 same-length c = search needs
 
 returns : tie.Need-returns
-returns c = let a = c .before .before .before .before .before .before .args in extra-put (a .p) (a .more) (a .rice) (a .v) _ _ (c .before .before .before .before .if1 .taken) (c .before .before .put-remainder .ensures)
+returns c = let a = c .before .before .before .before .before .before .args in extra-put (a .p) (a .more) (a .rice) (a .v) _ _
+    (c .before .before .before .before .if1 .taken) (c .before .before .put-remainder .ensures)
 
 returns-2 : tie.Need-returns-2
 returns-2 c = let a = c .before .before .args in extra-left (a .p) (a .more) (a .rice) (a .v) (sheet (a .room .now) (a .pen)) (sheet (a .room .now) (a .pen)) (c .if1 .left)

@@ -11,14 +11,6 @@ use Rattle.hevc_block_pen.specs.LevelsPuts.{rest-small, magnitude-small,
 use borrow.Author.Needs.{needs}
 use Rattle.hevc_block_pen.proofs.levels.put_level.Statement.{statement}
 use Rattle.hevc_block_pen.proofs.levels.put_level.Tie as tie
-use Rattle.hevc_block_pen.proofs.levels.put_level.Reads as reads
-use Rattle.hevc_block_pen.proofs.levels.put_level.Lts as lts
-use Rattle.hevc_extents.proofs.magnitude.Reads as magnitude-reads
-use Rattle.hevc_level_rules.proofs.levels.base_of.Reads as base-of-reads
-use Rattle.hevc_level_rules.proofs.levels.behind.Reads as behind-reads
-use Rattle.hevc_block_pen.proofs.levels.above.Reads as above-reads
-use Rattle.hevc_block_pen.proofs.levels.put_extra.Reads as put-extra-reads
-use Rattle.hevc_block_pen.proofs.levels.value_if.Reads as value-if-reads
 
 base-of-requires : tie.Need-base-of-requires
 base-of-requires c κs = search needs
@@ -36,25 +28,105 @@ above-requires : tie.Need-above-requires
 above-requires c κs = search needs
 
 put-extra-requires : tie.Need-put-extra-requires
-put-extra-requires c κs = let a = c .before .before .before .before .before .before .before .args in let f : SFits w32 (getD (a .levels .now) (a .g .places % 16) (pos 0)) = record { sfits = c .before .before .before .magnitude-arg .given } in let b = c .before .before .before .before .before .base-of in let is = c .before .before .magnitude .ensures ∙ ap natAbs (toZ-ofZ f) in (c .before .before .before .before .before .before .before .pre .0, c .before .before .before .before .before .before .before .pre .2 .rice, rest-small (a .p) (a .levels .now) (a .greater2) (a .g) (b .result .level) (b .result .more) (c .before .before .before .before .before .before .before .pre .0) (c .before .before .before .before .before .before .before .pre .1) (c .before .before .before .before .before .before .before .pre .2) (c .before .before .before .before .before .before .before .pre .3) (b .ensures) (c .before .before .magnitude .result) is (c .before .above .result) (c .before .above .ensures))
+put-extra-requires c κs =
+    let above-place = c .before in
+    let magnitude-place = above-place .before in
+    let magnitude-arg-place = magnitude-place .before in
+    let base-of-place = magnitude-arg-place .before .before in
+    let start-place = base-of-place .before .before in
+    let a = start-place .args in
+    let f : SFits w32 (getD (a .levels .now) (a .g .places % 16) (pos 0)) = record { sfits = magnitude-arg-place .magnitude-arg .given } in
+    let b = base-of-place .base-of in
+    let is = magnitude-place .magnitude .ensures ∙ ap natAbs (toZ-ofZ f) in (
+      start-place .pre .0,
+      start-place .pre .2 .rice,
+      rest-small (a .p) (a .levels .now) (a .greater2) (a .g) (b .result .level) (b .result .more) (start-place .pre .0) (start-place .pre .1) (start-place .pre .2)
+          (start-place .pre .3) (b .ensures) (magnitude-place .magnitude .result) is (above-place .above .result) (above-place .above .ensures),
+    )
 
 value-if-requires : tie.Need-value-if-requires
 value-if-requires c κs = search needs
 
 add-m : tie.Need-add-m
-add-m c = let a = c .before .before .before .before .before .before .before .before .before .before .before .before .args in let f : SFits w32 (getD (a .levels .now) (a .g .places % 16) (pos 0)) = record { sfits = c .before .before .before .before .before .before .before .before .magnitude-arg .given } in let b = c .before .before .before .before .before .before .before .before .before .before .base-of in let is = c .before .before .before .before .before .before .before .magnitude .ensures ∙ ap natAbs (toZ-ofZ f) in omega (arith, magnitude-small (a .p) (a .levels .now) (a .greater2) (a .g) (b .result .level) (b .result .more) (c .before .before .before .before .before .before .before .before .before .before .before .before .pre .0) (c .before .before .before .before .before .before .before .before .before .before .before .before .pre .1) (c .before .before .before .before .before .before .before .before .before .before .before .before .pre .2) (c .before .before .before .before .before .before .before .before .before .before .before .before .pre .3) (b .ensures) (c .before .before .before .before .before .before .before .magnitude .result) is (c .before .before .before .before .before .before .above .result) (c .before .value-if .result) (c .before .before .before .before .before .before .above .ensures) (c .before .value-if .ensures))
+add-m c =
+    let value-if-place = c .before in
+    let above-place = (value-if-place .before .before .before) .before .before in
+    let magnitude-place = above-place .before in
+    let magnitude-arg-place = magnitude-place .before in
+    let base-of-place = magnitude-arg-place .before .before in
+    let start-place = base-of-place .before .before in
+    let a = start-place .args in
+    let f : SFits w32 (getD (a .levels .now) (a .g .places % 16) (pos 0)) = record { sfits = magnitude-arg-place .magnitude-arg .given } in
+    let b = base-of-place .base-of in
+    let is = magnitude-place .magnitude .ensures ∙ ap natAbs (toZ-ofZ f) in
+    omega (
+      arith,
+      magnitude-small (a .p) (a .levels .now) (a .greater2) (a .g) (b .result .level) (b .result .more) (start-place .pre .0) (start-place .pre .1)
+          (start-place .pre .2) (start-place .pre .3) (b .ensures) (magnitude-place .magnitude .result) is (above-place .above .result) (value-if-place .value-if .result)
+          (above-place .above .ensures) (value-if-place .value-if .ensures),
+    )
 
 add-behind : tie.Need-add-behind
-add-behind c = let a = c .before .before .before .before .before .before .before .before .before .before .before .before .before .args in let f : SFits w32 (getD (a .levels .now) (a .g .places % 16) (pos 0)) = record { sfits = c .before .before .before .before .before .before .before .before .before .magnitude-arg .given } in let b = c .before .before .before .before .before .before .before .before .before .before .before .base-of in let is = c .before .before .before .before .before .before .before .before .magnitude .ensures ∙ ap natAbs (toZ-ofZ f) in omega (arith, magnitude-small (a .p) (a .levels .now) (a .greater2) (a .g) (b .result .level) (b .result .more) (c .before .before .before .before .before .before .before .before .before .before .before .before .before .pre .0) (c .before .before .before .before .before .before .before .before .before .before .before .before .before .pre .1) (c .before .before .before .before .before .before .before .before .before .before .before .before .before .pre .2) (c .before .before .before .before .before .before .before .before .before .before .before .before .before .pre .3) (b .ensures) (c .before .before .before .before .before .before .before .before .magnitude .result) is (c .before .before .before .before .before .before .before .above .result) (c .before .before .value-if .result) (c .before .before .before .before .before .before .before .above .ensures) (c .before .before .value-if .ensures), c .before .before .before .before .before .before .before .before .before .before .before .before .before .pre .2 .sum)
+add-behind c =
+    let value-if-place = c .before .before in
+    let above-place = (value-if-place .before .before .before) .before .before in
+    let magnitude-place = above-place .before in
+    let magnitude-arg-place = magnitude-place .before in
+    let base-of-place = magnitude-arg-place .before .before in
+    let start-place = base-of-place .before .before in
+    let a = start-place .args in
+    let f : SFits w32 (getD (a .levels .now) (a .g .places % 16) (pos 0)) = record { sfits = magnitude-arg-place .magnitude-arg .given } in
+    let b = base-of-place .base-of in
+    let is = magnitude-place .magnitude .ensures ∙ ap natAbs (toZ-ofZ f) in
+    omega (
+      arith,
+      magnitude-small (a .p) (a .levels .now) (a .greater2) (a .g) (b .result .level) (b .result .more) (start-place .pre .0) (start-place .pre .1)
+          (start-place .pre .2) (start-place .pre .3) (b .ensures) (magnitude-place .magnitude .result) is (above-place .above .result) (value-if-place .value-if .result)
+          (above-place .above .ensures) (value-if-place .value-if .ensures),
+      start-place .pre .2 .sum,
+    )
 
 behind-requires : tie.Need-behind-requires
-behind-requires c κs = let a = c .before .before .before .before .before .before .before .before .before .before .before .before .before .args in let f : SFits w32 (getD (a .levels .now) (a .g .places % 16) (pos 0)) = record { sfits = c .before .before .before .before .before .before .before .before .before .magnitude-arg .given } in let b = c .before .before .before .before .before .before .before .before .before .before .before .base-of in let is = c .before .before .before .before .before .before .before .before .magnitude .ensures ∙ ap natAbs (toZ-ofZ f) in (c .before .before .before .before .before .before .before .before .before .before .before .before .before .pre .2, c .before .before .before .before .before .before .before .before .before .before .before .before .before .pre .3, omega (arith, magnitude-small (a .p) (a .levels .now) (a .greater2) (a .g) (b .result .level) (b .result .more) (c .before .before .before .before .before .before .before .before .before .before .before .before .before .pre .0) (c .before .before .before .before .before .before .before .before .before .before .before .before .before .pre .1) (c .before .before .before .before .before .before .before .before .before .before .before .before .before .pre .2) (c .before .before .before .before .before .before .before .before .before .before .before .before .before .pre .3) (b .ensures) (c .before .before .before .before .before .before .before .before .magnitude .result) is (c .before .before .before .before .before .before .before .above .result) (c .before .before .value-if .result) (c .before .before .before .before .before .before .before .above .ensures) (c .before .before .value-if .ensures)))
+behind-requires c κs =
+    let value-if-place = c .before .before in
+    let above-place = (value-if-place .before .before .before) .before .before in
+    let magnitude-place = above-place .before in
+    let magnitude-arg-place = magnitude-place .before in
+    let base-of-place = magnitude-arg-place .before .before in
+    let start-place = base-of-place .before .before in
+    let a = start-place .args in
+    let f : SFits w32 (getD (a .levels .now) (a .g .places % 16) (pos 0)) = record { sfits = magnitude-arg-place .magnitude-arg .given } in
+    let b = base-of-place .base-of in
+    let is = magnitude-place .magnitude .ensures ∙ ap natAbs (toZ-ofZ f) in (
+      start-place .pre .2,
+      start-place .pre .3,
+      omega (
+        arith,
+        magnitude-small (a .p) (a .levels .now) (a .greater2) (a .g) (b .result .level) (b .result .more) (start-place .pre .0) (start-place .pre .1)
+            (start-place .pre .2) (start-place .pre .3) (b .ensures) (magnitude-place .magnitude .result) is (above-place .above .result)
+            (value-if-place .value-if .result) (above-place .above .ensures) (value-if-place .value-if .ensures),
+      ),
+    )
 
 same-length : tie.Need-same-length
 same-length c = search needs
 
 returns : tie.Need-returns
-returns c = let a = c .before .before .before .before .before .before .before .before .before .before .before .before .before .before .args in let f : SFits w32 (getD (a .levels .now) (a .g .places % 16) (pos 0)) = record { sfits = c .before .before .before .before .before .before .before .before .before .before .magnitude-arg .given } in let b = c .before .before .before .before .before .before .before .before .before .before .before .before .base-of in let is = c .before .before .before .before .before .before .before .before .before .magnitude .ensures ∙ ap natAbs (toZ-ofZ f) in level-puts (a .p) (a .levels .now) (a .greater2) (a .g) (b .result .level) (b .result .more) (c .before .before .before .before .before .before .before .before .before .before .before .before .before .before .pre .0) (c .before .before .before .before .before .before .before .before .before .before .before .before .before .before .pre .1) (c .before .before .before .before .before .before .before .before .before .before .before .before .before .before .pre .2) (c .before .before .before .before .before .before .before .before .before .before .before .before .before .before .pre .3) (b .ensures) (c .before .before .before .before .before .before .before .before .before .magnitude .result) is (c .before .before .before .before .before .before .before .before .above .result) (c .before .before .before .value-if .result) (c .before .before .before .before .before .before .before .before .above .ensures) (c .before .before .before .value-if .ensures) (c .behind .result) (c .behind .ensures) _ _ (c .before .before .before .before .before .before .put-extra .ensures)
+returns c =
+    let value-if-place = c .before .before .before in
+    let put-extra-place = value-if-place .before .before .before in
+    let above-place = put-extra-place .before .before in
+    let magnitude-place = above-place .before in
+    let magnitude-arg-place = magnitude-place .before in
+    let base-of-place = magnitude-arg-place .before .before in
+    let start-place = base-of-place .before .before in
+    let a = start-place .args in
+    let f : SFits w32 (getD (a .levels .now) (a .g .places % 16) (pos 0)) = record { sfits = magnitude-arg-place .magnitude-arg .given } in
+    let b = base-of-place .base-of in
+    let is = magnitude-place .magnitude .ensures ∙ ap natAbs (toZ-ofZ f) in
+    level-puts (a .p) (a .levels .now) (a .greater2) (a .g) (b .result .level) (b .result .more) (start-place .pre .0) (start-place .pre .1) (start-place .pre .2)
+    (start-place .pre .3) (b .ensures) (magnitude-place .magnitude .result) is (above-place .above .result) (value-if-place .value-if .result)
+    (above-place .above .ensures) (value-if-place .value-if .ensures) (c .behind .result) (c .behind .ensures) _ _ (put-extra-place .put-extra .ensures)
 
 pub put-level-spec : {M : Type 1} → statement M
 put-level-spec =

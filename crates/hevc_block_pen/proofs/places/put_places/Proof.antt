@@ -15,22 +15,20 @@ use Rattle.pen.specs.Sheet.{sheet}
 use Rattle.hevc_block_pen.specs.PlacesPuts.{Putting, putting-begins, putting-inferred, putting-on, putting-ends, put-number}
 use Rattle.hevc_block_pen.proofs.places.put_places.Statement.{statement}
 use Rattle.hevc_block_pen.proofs.places.put_places.Tie as tie
-use Rattle.hevc_block_pen.proofs.places.put_places.Reads as reads
-use Rattle.hevc_block_pen.proofs.places.put_places.Lts as lts
-use Rattle.hevc_wanted.proofs.sub.is_level.Reads as is-level-reads
-use Rattle.pen.proofs.room.put_bin.Reads as put-bin-reads
-use Rattle.hevc_rules.proofs.places.appended.Reads as appended-reads
-use Rattle.hevc_rules.proofs.places.inferred.Reads as inferred-reads
-use Rattle.hevc_rules.proofs.places.sig_number.Reads as sig-number-reads
 
 abbrev Inv-loop : tie.InvT-loop
-Inv-loop room₀ levels order map p single neighbours xs ys infer below k₀ s₀ y₀ room k s y = Putting levels (sigNumber p single neighbours xs ys) infer below s₀ (sheet room₀ y₀) k s (sheet room y)
+Inv-loop room₀ levels order map p single neighbours xs ys infer below k₀ s₀ y₀ room k s y = Putting levels (sigNumber p single neighbours xs ys) infer below s₀
+    (sheet room₀ y₀) k s (sheet room y)
 
 abbrev μ-loop : tie.MeasureT-loop
 μ-loop room₀ levels order map p single neighbours xs ys infer below k₀ s₀ y₀ room k s y = k
 
 loop-holds : tie.Need-loop-holds Inv-loop μ-loop
-loop-holds c = let a = c .before .args in putting-begins (a .levels .now) (sigNumber (a .p) (a .single) (a .neighbours) (a .xs) (a .ys)) (a .infer) (a .below) (a .met) (sheet (a .room .now) (a .pen)) (c .before .pre .9) (c .before .pre .10)
+loop-holds c =
+    let start-place = c .before in
+    let a = start-place .args in
+    putting-begins (a .levels .now) (sigNumber (a .p) (a .single) (a .neighbours) (a .xs) (a .ys)) (a .infer) (a .below) (a .met) (sheet (a .room .now) (a .pen))
+    (start-place .pre .9) (start-place .pre .10)
 
 sub-k : tie.Need-sub-k Inv-loop μ-loop
 sub-k c = search needs
@@ -42,10 +40,33 @@ same-length : tie.Need-same-length Inv-loop μ-loop
 same-length c = c .before .before .before .loop .inv .long
 
 returns : tie.Need-returns Inv-loop μ-loop
-returns c = let a = c .before .before .before .before .before .args in let t = c .before .before .before .loop in putting-inferred (a .levels .now) (sigNumber (a .p) (a .single) (a .neighbours) (a .xs) (a .ys)) (a .infer) (a .below) (a .met) (sheet (a .room .now) (a .pen)) (t .k) (t .s) (sheet (t .room) (t .y)) (t .inv) (c .before .before .loop-test .taken) (c .before .inferred .result) (c .before .inferred .ensures) (c .if1 .taken)
+returns c =
+    let inferred-place = c .before in
+    let in-loop-place = inferred-place .before in
+    let at-loop-place = in-loop-place .before in
+    let start-place = at-loop-place .before .before in
+    let a = start-place .args in
+    let t = at-loop-place .loop in
+    putting-inferred (a .levels .now) (sigNumber (a .p) (a .single) (a .neighbours) (a .xs) (a .ys)) (a .infer) (a .below) (a .met) (sheet (a .room .now) (a .pen))
+    (t .k) (t .s) (sheet (t .room) (t .y)) (t .inv) (in-loop-place .loop-test .taken) (inferred-place .inferred .result) (inferred-place .inferred .ensures)
+    (c .if1 .taken)
 
 sig-number-requires : tie.Need-sig-number-requires Inv-loop μ-loop
-sig-number-requires c κs = let h = c .before .before .before .before .before .pre in (h .0, h .1, h .2, h .3, h .4, h .5, h .6, h .7, h .8, omega (arith, c .before .before .before .loop .inv .few))
+sig-number-requires c κs =
+    let at-loop-place = c .before .before .before in
+    let start-place = at-loop-place .before .before in
+    let h = start-place .pre in (
+      h .0,
+      h .1,
+      h .2,
+      h .3,
+      h .4,
+      h .5,
+      h .6,
+      h .7,
+      h .8,
+      omega (arith, at-loop-place .loop .inv .few),
+    )
 
 cast-is-level : tie.Need-cast-is-level Inv-loop μ-loop
 cast-is-level c = search needs
@@ -54,28 +75,71 @@ mul-is-level : tie.Need-mul-is-level Inv-loop μ-loop
 mul-is-level c = search needs
 
 element-copy-out-is-level : tie.Need-element-copy-out-is-level Inv-loop μ-loop
-element-copy-out-is-level c = omega (arith, c .before .before .before .before .loop .inv .few)
+element-copy-out-is-level c =
+    let at-loop-place = c .before .before .before .before in
+    omega (arith, at-loop-place .loop .inv .few)
 
 is-level-requires : tie.Need-is-level-requires Inv-loop μ-loop
 is-level-requires c κs = search needs
 
 put-bin-requires : tie.Need-put-bin-requires Inv-loop μ-loop
-put-bin-requires c κs = let a = c .before .before .before .before .before .before .before .before .before .args in let t = c .before .before .before .before .before .before .before .loop in put-number (c .before .before .before .sig-number .result) _ (c .before .before .before .sig-number .ensures) (c .before .before .before .before .before .before .before .before .before .pre .11 (t .k - 1) (omega (arith, t .inv .low)))
+put-bin-requires c κs =
+    let sig-number-place = c .before .before .before in
+    let at-loop-place = sig-number-place .before .before .before .before in
+    let start-place = at-loop-place .before .before in
+    let a = start-place .args in
+    let t = at-loop-place .loop in
+    put-number (sig-number-place .sig-number .result) _ (sig-number-place .sig-number .ensures) (start-place .pre .11 (t .k - 1) (omega (arith, t .inv .low)))
 
 appended-requires : tie.Need-appended-requires Inv-loop μ-loop
-appended-requires c κs = let a = c .before .before .before .before .before .before .before .before .before .before .before .before .args in let t = c .before .before .before .before .before .before .before .before .before .before .loop in (t .inv .packs, omega (arith, t .inv .few), omega (arith, t .inv .few), c .before .before .before .before .is-level .ensures .1)
+appended-requires c κs =
+    let is-level-place = c .before .before .before .before in
+    let inferred-place = is-level-place .before .before .before .before in
+    let in-loop-place = inferred-place .before in
+    let t = in-loop-place .before .loop in (
+      t .inv .packs,
+      omega (arith, t .inv .few, in-loop-place .loop-test .taken),
+      omega (arith, t .inv .few, in-loop-place .loop-test .taken),
+      is-level-place .is-level .ensures .1,
+    )
 
 loop-less : tie.Need-loop-less Inv-loop μ-loop
 loop-less c = omega arith
 
 loop-again : tie.Need-loop-again Inv-loop μ-loop
-loop-again c = let a = c .before .before .before .before .before .before .before .before .before .before .before .before .before .args in let t = c .before .before .before .before .before .before .before .before .before .before .before .loop in let f : SFits w32 (getD (a .levels .now) (t .k - 1) (pos 0)) = record { sfits = c .before .before .before .before .before .before .is-level-arg .given } in subst (Putting (a .levels .now) (sigNumber (a .p) (a .single) (a .neighbours) (a .xs) (a .ys)) (a .infer) (a .below) (a .met) (sheet (a .room .now) (a .pen)) (t .k - 1) (c .appended .result)) (sym (c .before .before .before .put-bin .ensures)) (putting-on (a .levels .now) (sigNumber (a .p) (a .single) (a .neighbours) (a .xs) (a .ys)) (a .infer) (a .below) (a .met) (sheet (a .room .now) (a .pen)) (t .k) (t .s) (sheet (t .room) (t .y)) (t .inv) (c .before .before .before .before .before .before .before .before .before .before .loop-test .taken) (c .before .before .before .before .before .before .before .before .before .inferred .result) (c .before .before .before .before .before .before .before .before .before .inferred .ensures) (c .before .before .before .before .before .before .before .before .if1 .left) (c .before .before .before .before .before .before .before .sig-number .result) (c .before .before .before .before .before .before .before .sig-number .ensures) (c .before .before .before .before .before .is-level .result) (c .before .before .before .before .before .is-level .ensures .0 ∙ ap (λ v. bitNo (ltb 0 (natAbs v))) (toZ-ofZ f)) (c .appended .result) (c .appended .ensures) (c .before .before .before .before .before .is-level .ensures .1))
+loop-again c =
+    let put-bin-place = c .before .before .before in
+    let is-level-place = put-bin-place .before .before in
+    let is-level-arg-place = is-level-place .before in
+    let sig-number-place = is-level-arg-place .before in
+    let else1-place = sig-number-place .before in
+    let inferred-place = else1-place .before in
+    let in-loop-place = inferred-place .before in
+    let at-loop-place = in-loop-place .before in
+    let start-place = at-loop-place .before .before in
+    let a = start-place .args in
+    let t = at-loop-place .loop in
+    let f : SFits w32 (getD (a .levels .now) (t .k - 1) (pos 0)) = record { sfits = is-level-arg-place .is-level-arg .given } in
+    subst
+    (Putting (a .levels .now) (sigNumber (a .p) (a .single) (a .neighbours) (a .xs) (a .ys)) (a .infer) (a .below) (a .met) (sheet (a .room .now) (a .pen)) (t .k - 1) (c .appended .result))
+    (sym (put-bin-place .put-bin .ensures))
+    (putting-on (a .levels .now) (sigNumber (a .p) (a .single) (a .neighbours) (a .xs) (a .ys)) (a .infer) (a .below) (a .met) (sheet (a .room .now) (a .pen)) (t .k)
+    (t .s) (sheet (t .room) (t .y)) (t .inv) (in-loop-place .loop-test .taken) (inferred-place .inferred .result) (inferred-place .inferred .ensures)
+    (else1-place .if1 .left) (sig-number-place .sig-number .result) (sig-number-place .sig-number .ensures) (is-level-place .is-level .result)
+    (is-level-place .is-level .ensures .0 ∙ ap (λ v. bitNo (ltb 0 (natAbs v))) (toZ-ofZ f)) (c .appended .result) (c .appended .ensures)
+    (is-level-place .is-level .ensures .1))
 
 same-length-2 : tie.Need-same-length-2 Inv-loop μ-loop
 same-length-2 c = c .before .loop .inv .long
 
 returns-2 : tie.Need-returns-2 Inv-loop μ-loop
-returns-2 c = let a = c .before .before .before .args in let t = c .before .loop in putting-ends (a .levels .now) (sigNumber (a .p) (a .single) (a .neighbours) (a .xs) (a .ys)) (a .infer) (a .below) (a .met) (sheet (a .room .now) (a .pen)) (t .k) (t .s) (sheet (t .room) (t .y)) (t .inv) (c .loop-test .left)
+returns-2 c =
+    let at-loop-place = c .before in
+    let start-place = at-loop-place .before .before in
+    let a = start-place .args in
+    let t = at-loop-place .loop in
+    putting-ends (a .levels .now) (sigNumber (a .p) (a .single) (a .neighbours) (a .xs) (a .ys)) (a .infer) (a .below) (a .met) (sheet (a .room .now) (a .pen))
+    (t .k) (t .s) (sheet (t .room) (t .y)) (t .inv) (c .loop-test .left)
 
 pub put-places-spec : {M : Type 1} → statement M
 put-places-spec =

@@ -36,7 +36,8 @@ add-v : tie.Need-add-v Inv-loop μ-loop
 add-v c =
     let a = c .before .before .before .before .args in
     let t = c .before .before .before .loop in
-    let few = signing-small (a .levels .now) (unpacked (a .s)) (a .n) (t .v) (t .j) (t .inv) (c .before .before .loop-test .taken) (omega (arith, c .before .before .before .before .pre .0 .few)) in
+    let few = signing-small (a .levels .now) (unpacked (a .s)) (a .n) (t .v) (t .j) (t .inv) (c .before .before .loop-test .taken)
+    (omega (arith, c .before .before .before .before .pre .0 .few)) in
     omega (arith, c .sign-at .ensures .1)
 
 add-j : tie.Need-add-j Inv-loop μ-loop

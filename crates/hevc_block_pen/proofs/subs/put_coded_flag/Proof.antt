@@ -20,7 +20,10 @@ same-length : tie.Need-same-length
 same-length c = search needs
 
 returns : tie.Need-returns
-returns c = λ want w q. let a = c .before .before .before .before .before .before .args in subst (Wrote (flagOr (a .middle) (a .number) want) (done (cond (a .middle) (a .flag) true)) w (sheet (a .room .now) (a .pen))) (sym (c .before .before .put-bin .ensures)) (coded-put (a .middle) (a .number) (sheet (a .room .now) (a .pen)) (a .flag) want w q (c .before .before .before .before .if1 .taken))
+returns c = λ want w q. let a = c .before .before .before .before .before .before .args in subst
+    (Wrote (flagOr (a .middle) (a .number) want) (done (cond (a .middle) (a .flag) true)) w (sheet (a .room .now) (a .pen)))
+    (sym (c .before .before .put-bin .ensures)) (coded-put (a .middle) (a .number) (sheet (a .room .now) (a .pen)) (a .flag) want w q
+    (c .before .before .before .before .if1 .taken))
 
 returns-2 : tie.Need-returns-2
 returns-2 c = λ want w q. let a = c .before .before .args in coded-left (a .middle) (a .number) (sheet (a .room .now) (a .pen)) (a .flag) want w q (c .if1 .left)

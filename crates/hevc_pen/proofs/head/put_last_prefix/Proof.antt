@@ -6,10 +6,6 @@ use Rattle.hevc_pen.specs.HeadLaws.{group-within, position-small, luma-p
 use borrow.Author.Needs.{needs}
 use Rattle.hevc_pen.proofs.head.put_last_prefix.Statement.{statement}
 use Rattle.hevc_pen.proofs.head.put_last_prefix.Tie as tie
-use Rattle.hevc_pen.proofs.head.put_last_prefix.Reads as reads
-use Rattle.hevc_pen.proofs.head.put_last_prefix.Lts as lts
-use Rattle.hevc_pen.proofs.head.group_of.Reads as group-of-reads
-use Rattle.pen.proofs.shapes.put_prefix.Reads as put-prefix-reads
 
 mul-most : tie.Need-mul-most
 mul-most c = search needs
@@ -42,13 +38,30 @@ add-put-prefix : tie.Need-add-put-prefix
 add-put-prefix c = search needs
 
 put-prefix-requires : tie.Need-put-prefix-requires
-put-prefix-requires c κs = let a = c .before .before .before .before .args in let g = subst (λ z. z ≤ 2 * a .log2 - 1) (sym (c .before .before .group-of .ensures)) (group-within (a .log2) (a .v) (c .before .before .before .before .pre .1) (c .before .before .before .before .pre .2) (c .before .before .before .before .pre .3)) in (omega (arith, c .before .before .before .before .pre .0, c .before .before .before .before .pre .2), g, omega (arith, c .before .before .before .before .pre .2), omega (arith, c .before .before .before .before .pre .2))
+put-prefix-requires c κs =
+    let group-of-place = c .before .before in
+    let start-place = group-of-place .before .before in
+    let a = start-place .args in
+    let g = subst (λ z. z ≤ 2 * a .log2 - 1) (sym (group-of-place .group-of .ensures))
+    (group-within (a .log2) (a .v) (start-place .pre .1) (start-place .pre .2) (start-place .pre .3)) in (
+      omega (arith, start-place .pre .0, start-place .pre .2),
+      g,
+      omega (arith, start-place .pre .2),
+      omega (arith, start-place .pre .2),
+    )
 
 same-length : tie.Need-same-length
 same-length c = search needs
 
 returns : tie.Need-returns
-returns c = let a = c .before .before .before .before .before .before .before .args in luma-put (a .first) (a .luma) (a .log2) (a .v) (c .before .before .before .before .before .group-of .result) _ _ (c .before .before .before .before .before .before .before .pre .1) (c .before .before .before .before .before .before .before .pre .2) (c .before .before .before .before .before .before .before .pre .3) (c .before .before .before .before .before .group-of .ensures) (c .before .before .before .before .if1 .taken) (c .before .before .put-prefix .ensures)
+returns c =
+    let put-prefix-place = c .before .before in
+    let then1-place = put-prefix-place .before .before in
+    let group-of-place = then1-place .before in
+    let start-place = group-of-place .before .before in
+    let a = start-place .args in
+    luma-put (a .first) (a .luma) (a .log2) (a .v) (group-of-place .group-of .result) _ _ (start-place .pre .1) (start-place .pre .2) (start-place .pre .3)
+    (group-of-place .group-of .ensures) (then1-place .if1 .taken) (put-prefix-place .put-prefix .ensures)
 
 add-put-prefix-2 : tie.Need-add-put-prefix-2
 add-put-prefix-2 c = search needs
@@ -57,13 +70,30 @@ sub-put-prefix : tie.Need-sub-put-prefix
 sub-put-prefix c = search needs
 
 put-prefix-requires-2 : tie.Need-put-prefix-requires-2
-put-prefix-requires-2 c κs = let a = c .before .before .before .before .args in let g = subst (λ z. z ≤ 2 * a .log2 - 1) (sym (c .before .before .group-of .ensures)) (group-within (a .log2) (a .v) (c .before .before .before .before .pre .1) (c .before .before .before .before .pre .2) (c .before .before .before .before .pre .3)) in (omega (arith, c .before .before .before .before .pre .0, c .before .before .before .before .pre .2), g, omega (arith, c .before .before .before .before .pre .2), omega (arith, c .before .before .before .before .pre .2))
+put-prefix-requires-2 c κs =
+    let group-of-place = c .before .before in
+    let start-place = group-of-place .before .before in
+    let a = start-place .args in
+    let g = subst (λ z. z ≤ 2 * a .log2 - 1) (sym (group-of-place .group-of .ensures))
+    (group-within (a .log2) (a .v) (start-place .pre .1) (start-place .pre .2) (start-place .pre .3)) in (
+      omega (arith, start-place .pre .0, start-place .pre .2),
+      g,
+      omega (arith, start-place .pre .2),
+      omega (arith, start-place .pre .2),
+    )
 
 same-length-2 : tie.Need-same-length-2
 same-length-2 c = search needs
 
 returns-2 : tie.Need-returns-2
-returns-2 c = let a = c .before .before .before .before .before .before .before .args in chroma-put (a .first) (a .luma) (a .log2) (a .v) (c .before .before .before .before .before .group-of .result) _ _ (c .before .before .before .before .before .before .before .pre .1) (c .before .before .before .before .before .before .before .pre .2) (c .before .before .before .before .before .before .before .pre .3) (c .before .before .before .before .before .group-of .ensures) (c .before .before .before .before .if1 .left) (c .before .before .put-prefix2 .ensures)
+returns-2 c =
+    let put-prefix2-place = c .before .before in
+    let else1-place = put-prefix2-place .before .before in
+    let group-of-place = else1-place .before in
+    let start-place = group-of-place .before .before in
+    let a = start-place .args in
+    chroma-put (a .first) (a .luma) (a .log2) (a .v) (group-of-place .group-of .result) _ _ (start-place .pre .1) (start-place .pre .2) (start-place .pre .3)
+    (group-of-place .group-of .ensures) (else1-place .if1 .left) (put-prefix2-place .put-prefix2 .ensures)
 
 pub put-last-prefix-spec : {M : Type 1} → statement M
 put-last-prefix-spec =

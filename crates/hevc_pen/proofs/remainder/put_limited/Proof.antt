@@ -7,13 +7,10 @@ use Rattle.pen.specs.RemainderLaws.{Prefixed, base-reached, limited-fits, limit
 use borrow.Author.Needs.{needs}
 use Rattle.hevc_pen.proofs.remainder.put_limited.Statement.{statement}
 use Rattle.hevc_pen.proofs.remainder.put_limited.Tie as tie
-use Rattle.hevc_pen.proofs.remainder.put_limited.Reads as reads
-use Rattle.hevc_pen.proofs.remainder.put_limited.Lts as lts
-use Rattle.hevc_elements.proofs.remainder.escape_length.Reads as escape-length-reads
-use Rattle.pen.proofs.remainder.eg_count.Reads as eg-count-reads
-use Rattle.pen.proofs.remainder.eg_rest.Reads as eg-rest-reads
-use Rattle.pen.proofs.shapes.put_bits.Reads as put-bits-reads
-use Rattle.pen.proofs.shapes.put_ones.Reads as put-ones-reads
+
+-- the places before: four back, and the start
+abbrev back-escape-length : tie.After-escape-length → tie.After-put-ones
+back-escape-length c = c .before .before .before .before
 
 sub-eg-count : tie.Need-sub-eg-count
 sub-eg-count c = search needs
@@ -31,16 +28,44 @@ escape-length-requires : tie.Need-escape-length-requires
 escape-length-requires c κs = search needs
 
 eg-rest-requires : tie.Need-eg-rest-requires
-eg-rest-requires c κs = let a = c .before .before .before .before .before .before .before .before .args in let n = c .before .before .before .before .before .before .eg-count in (omega (arith, n .ensures .upto, c .before .before .before .before .before .before .before .before .pre .0), c .before .before .before .before .before .before .before .before .pre .2, base-reached (a .k) (a .v) (28 - a .t) (n .result) (n .ensures))
+eg-rest-requires c κs =
+    let eg-count-place = (back-escape-length c) .before .before in
+    let start-place = eg-count-place .before .before in
+    let a = start-place .args in
+    let n = eg-count-place .eg-count in (
+      omega (arith, n .ensures .upto, start-place .pre .0),
+      start-place .pre .2,
+      base-reached (a .k) (a .v) (28 - a .t) (n .result) (n .ensures),
+    )
 
 put-bits-requires : tie.Need-put-bits-requires
-put-bits-requires c κs = let a = c .before .before .before .before .before .before .before .before .before .args in let n = c .before .before .before .before .before .before .before .eg-count in let f = limited-fits (a .k) (a .v) (n .result) (c .before .before .before .before .before .before .before .before .before .pre .2) (a .t) (c .before .before .before .before .before .before .before .before .before .pre .0) (c .before .before .before .before .before .before .before .before .before .pre .1) (c .before .before .before .before .before .before .before .before .before .pre .3) (n .ensures) in (subst (λ z. z ≤ 32) (sym (c .before .escape-length .ensures)) (f .0), subst (λ z. z < 2 ^ (c .before .escape-length .result)) (sym (c .eg-rest .ensures)) (subst (λ z. a .v - egBase (a .k) (n .result) < 2 ^ z) (sym (c .before .escape-length .ensures)) (f .1)))
+put-bits-requires c κs =
+    let escape-length-place = c .before in
+    let eg-count-place = (back-escape-length escape-length-place) .before .before in
+    let start-place = eg-count-place .before .before in
+    let a = start-place .args in
+    let n = eg-count-place .eg-count in
+    let f = limited-fits (a .k) (a .v) (n .result) (start-place .pre .2) (a .t) (start-place .pre .0) (start-place .pre .1) (start-place .pre .3) (n .ensures) in (
+      subst (λ z. z ≤ 32) (sym (escape-length-place .escape-length .ensures)) (f .0),
+      subst (λ z. z < 2 ^ (escape-length-place .escape-length .result)) (sym (c .eg-rest .ensures))
+          (subst (λ z. a .v - egBase (a .k) (n .result) < 2 ^ z) (sym (escape-length-place .escape-length .ensures)) (f .1)),
+    )
 
 same-length : tie.Need-same-length
 same-length c = search needs
 
 returns : tie.Need-returns
-returns c = let a = c .before .before .before .before .before .before .before .before .before .before .before .before .args in let n = c .before .before .before .before .before .before .before .before .before .before .eg-count in limited-written (a .k) (a .v) (n .result) _ _ _ (c .before .before .before .before .before .before .before .before .before .before .before .before .pre .2) (a .t) (c .before .before .before .before .before .before .before .before .before .before .before .before .pre .0) (c .before .before .before .before .before .before .before .before .before .before .before .before .pre .1) (c .before .before .before .before .before .before .before .before .before .before .before .before .pre .3) (n .ensures) (c .before .before .before .before .before .before .before .before .put-ones .ensures) (bits-as (c .before .before .before .before .escape-length .ensures) (c .before .before .before .eg-rest .ensures) (c .before .before .put-bits .ensures))
+returns c =
+    let put-bits-place = c .before .before in
+    let eg-rest-place = put-bits-place .before in
+    let escape-length-place = eg-rest-place .before in
+    let put-ones-place = escape-length-place .before .before .before .before in
+    let eg-count-place = put-ones-place .before .before in
+    let start-place = eg-count-place .before .before in
+    let a = start-place .args in
+    let n = eg-count-place .eg-count in
+    limited-written (a .k) (a .v) (n .result) _ _ _ (start-place .pre .2) (a .t) (start-place .pre .0) (start-place .pre .1) (start-place .pre .3) (n .ensures)
+    (put-ones-place .put-ones .ensures) (bits-as (escape-length-place .escape-length .ensures) (eg-rest-place .eg-rest .ensures) (put-bits-place .put-bits .ensures))
 
 pub put-limited-spec : {M : Type 1} → statement M
 put-limited-spec =

@@ -1,19 +1,29 @@
 -- `put_block` meets its contract. Assumes nothing.
-use native.Mathlib.Omega.{arith}
-use mathlib.Core.Path.{refl, sym, ap, subst, _∙_}
+use mathlib.Core.Path.{refl, sym}
+use borrow.Author.Needs.{needs}
 use Rattle.hevc_rules.specs.BlockLaws.{coded-none, coded-room, coded-long}
 use Rattle.hevc_block_pen.specs.BlockPuts.{wantedOf, codable, all-in-range, block-put}
-use borrow.Author.Needs.{needs}
 use Rattle.hevc_writer.proofs.entries.put_block.Statement.{statement}
 use Rattle.hevc_writer.proofs.entries.put_block.Tie as tie
-use Rattle.hevc_writer.proofs.entries.put_block.Reads as reads
-use Rattle.hevc_writer.proofs.entries.put_block.Lts as lts
-use Rattle.hevc_wanted.proofs.last.last_wanted.Reads as last-wanted-reads
-use Rattle.hevc_pen.proofs.head.put_head.Reads as put-head-reads
-use Rattle.hevc_rules.proofs.sizes.grid.Reads as grid-reads
-use Rattle.hevc_scans.proofs.orders.inner_order.Reads as inner-order-reads
-use Rattle.hevc_scans.proofs.orders.outer_order.Reads as outer-order-reads
-use Rattle.hevc_block_pen.proofs.subs.put_sub_blocks.Reads as put-sub-blocks-reads
+
+-- the places, from the end to the start
+abbrev putting : tie.After-coded2 → tie.After-put-sub-blocks
+putting c = c .before .before .before
+
+abbrev counted : tie.After-put-sub-blocks-arg2 → tie.After-grid
+counted c = c .before .before .before .before .before
+
+abbrev headed : tie.After-grid → tie.After-put-head
+headed c = c .before .before .before
+
+abbrev found : tie.After-put-head → tie.After-last-wanted
+found c = c .before .before
+
+abbrev ordered : tie.After-last-wanted → tie.After-outer-order
+ordered c = c .before .before .before
+
+abbrev start : tie.After-outer-order → tie.Start
+start c = c .before .before .before
 
 inner-order-requires : tie.Need-inner-order-requires
 inner-order-requires c κs = search needs
@@ -25,7 +35,12 @@ last-wanted-requires : tie.Need-last-wanted-requires
 last-wanted-requires c κs = search needs
 
 put-head-requires : tie.Need-put-head-requires
-put-head-requires c κs = let a = c .before .before .before .before .before .before .before .args in let l = c .before .last-wanted .ensures .1 in (c .before .before .before .before .before .before .before .pre .0 .least, c .before .before .before .before .before .before .before .pre .0 .most, l .column, l .row, codable (a .p) (a .skip) (a .rdpcm) (a .block .now) (c .before .before .before .before .before .before .before .pre .3))
+put-head-requires c κs =
+    let f = c .before in
+    let b = start (ordered f) in
+    let a = b .args in
+    let l = f .last-wanted .ensures .1 in
+    (b .pre .0 .least, b .pre .0 .most, l .column, l .row, codable (a .p) (a .skip) (a .rdpcm) (a .block .now) (b .pre .3))
 
 grid-requires : tie.Need-grid-requires
 grid-requires c κs = search needs
@@ -34,16 +49,41 @@ array-borrow-prefix-coded : tie.Need-array-borrow-prefix-coded
 array-borrow-prefix-coded c = search needs
 
 slice-aggregate-put-sub-blocks : tie.Need-slice-aggregate-put-sub-blocks
-slice-aggregate-put-sub-blocks c = let a = c .before .before .before .before .before .before .before .before .before .before .before .before .before .before .before .args in coded-room (a .p) (c .before .before .before .before .grid .result) (c .before .before .before .before .grid .ensures)
+slice-aggregate-put-sub-blocks c =
+    let g = c .before .before .before .before in
+    coded-room (start (ordered (found (headed g))) .args .p) (g .grid .result) (g .grid .ensures)
 
 put-sub-blocks-requires : tie.Need-put-sub-blocks-requires
-put-sub-blocks-requires c κs = let a = c .before .before .before .before .before .before .before .before .before .before .before .before .before .before .before .before .args in let l = c .before .before .before .before .before .before .before .before .before .before .last-wanted .ensures .1 in let k = c .before .before .before .before .before .before .before .before .before .before .before .before .before .before .before .before .pre .0 in (c .before .before .before .before .before .before .before .before .before .before .before .before .before .before .inner-order .ensures, c .before .before .before .before .before .before .before .before .before .before .before .before .before .outer-order .ensures, record { least = k .least; most = k .most; scan = k .scan; depth = k .depth; column = l .column; row = l .row }, coded-long (a .p) (c .before .before .before .before .before .grid .result) (c .before .before .before .before .before .grid .ensures) (c .before .before .before .before .before .before .before .before .before .before .before .before .before .before .before .before .pre .0), c .before .before .before .before .before .before .before .before .before .before .before .before .before .before .before .before .pre .1, all-in-range (a .p) (a .skip) (a .rdpcm) (a .block .now) (c .before .before .before .before .before .before .before .before .before .before .before .before .before .before .before .before .pre .3), c .before .before .before .before .before .before .before .before .before .before .before .before .before .before .before .before .pre .2)
+put-sub-blocks-requires c κs =
+    let g = counted c in
+    let f = found (headed g) in
+    let o = ordered f in
+    let b = start o in
+    let a = b .args in
+    let l = f .last-wanted .ensures .1 in
+    let k = b .pre .0 in (
+      o .before .inner-order .ensures,
+      o .outer-order .ensures,
+      record { least = k .least; most = k .most; scan = k .scan; depth = k .depth; column = l .column; row = l .row },
+      coded-long (a .p) (g .grid .result) (g .grid .ensures) k,
+      b .pre .1,
+      all-in-range (a .p) (a .skip) (a .rdpcm) (a .block .now) (b .pre .3),
+      b .pre .2,
+    )
 
 same-length : tie.Need-same-length
 same-length c = search needs
 
 returns : tie.Need-returns
-returns c = let a = c .before .before .before .before .before .before .before .before .before .before .before .before .before .before .before .before .before .before .before .before .args in let w = wantedOf (a .skip) (a .rdpcm) (a .block .now) in block-put (a .p) (a .skip) (a .rdpcm) (a .block .now) (a .stats .now) _ _ _ _ _ _ (coded-none (a .p) (c .before .before .before .before .before .before .before .before .before .grid .result) (c .before .before .before .before .before .before .before .before .before .grid .ensures)) (c .before .before .before .before .before .before .before .before .before .before .before .before .put-head .ensures w refl refl (sym (c .before .before .before .before .before .before .before .before .before .before .before .before .before .before .last-wanted .ensures .0 w refl))) (c .before .before .before .put-sub-blocks .ensures .1)
+returns c =
+    let s = putting c in
+    let g = counted (s .before) in
+    let h = headed g in
+    let f = found h in
+    let a = start (ordered f) .args in
+    let w = wantedOf (a .skip) (a .rdpcm) (a .block .now) in
+    block-put (a .p) (a .skip) (a .rdpcm) (a .block .now) (a .stats .now) _ _ _ _ _ _ (coded-none (a .p) (g .grid .result) (g .grid .ensures))
+    (h .put-head .ensures w refl refl (sym (f .last-wanted .ensures .0 w refl))) (s .put-sub-blocks .ensures .1)
 
 pub put-block-spec : {M : Type 1} → statement M
 put-block-spec =

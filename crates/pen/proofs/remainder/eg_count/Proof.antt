@@ -7,7 +7,7 @@ use Rattle.pen.proofs.remainder.eg_count.Statement.{statement}
 use Rattle.pen.proofs.remainder.eg_count.Tie as tie
 use Rattle.pen.proofs.remainder.eg_count.Reads as reads
 use Rattle.pen.proofs.remainder.eg_count.Lts as lts
-use Rattle.hevc_elements.proofs.remainder.whole_of.Reads as whole-of-reads
+use Rattle.hevc_remainder.proofs.remainder.whole_of.Reads as whole-of-reads
 
 abbrev Inv-loop : tie.InvT-loop
 Inv-loop k v most n₀ n = Counted k v most n
