@@ -2,7 +2,8 @@
  * cross-component prediction, and H.264's 4x4 block.
  *
  * Link target/archive/libbulmegart.a, which `tools/archive` proves and writes for the machine at hand (Linux on x86-64 or Arm). Nothing is
- * allocated, nothing is kept between calls, so any thread may call any of them. At most 5 KB of stack are taken.
+ * allocated, nothing is kept between calls, so any thread may call any of them. At most 5 KB of stack are taken where
+ * nothing else is said.
  *
  * A function, a field or a number has here the name that it has in Rattle, in bindings/rust and, where it stands there, in the Rust
  * (docs/ARCHITECTURE.md has the table).
@@ -344,6 +345,18 @@ bulmegart_block_answer bulmegart_residual_coding(const uint8_t *payload, size_t 
                                             uint8_t contexts[BULMEGART_CONTEXTS], uint8_t statistics[BULMEGART_STATISTICS],
                                             bulmegart_params params, int32_t *levels, size_t levels_length);
 
+/* Where a call of bulmegart_residual_coding with the same arguments ends, by 7 or 8 too, and how many bits past the payload's end that call draws, up to
+ * 65,535; a total handed in is not counted. Where another number refuses the call: the state handed in, and 0. Nothing is written. Takes up to 10 KB of
+ * stack. */
+typedef struct {
+    bulmegart_state state;
+    uint32_t past;
+} bulmegart_reached_answer;
+
+bulmegart_reached_answer bulmegart_reached(const uint8_t *payload, size_t length, bulmegart_state state,
+                                           const uint8_t contexts[BULMEGART_CONTEXTS], const uint8_t statistics[BULMEGART_STATISTICS],
+                                           bulmegart_params params, const int32_t *levels, size_t levels_length);
+
 /* From a bin list. 4 (parameters, flags, short block), 3 (a statistic above 84); then 8 or 13 in the order of reading.
  * Accepted: n·n levels, the statistics as the block left them. 4, 3: both untouched. 8, 13: n·n levels zero, statistics untouched. */
 bulmegart_list_answer bulmegart_read_bins(const uint8_t *list, size_t length, uint8_t statistics[BULMEGART_STATISTICS],
@@ -472,7 +485,8 @@ bulmegart_pack_tray_answer bulmegart_pack_tray(const uint8_t contexts[BULMEGART_
                                                const bulmegart_record *records, size_t records_length, const uint8_t *lists, size_t length,
                                                uint8_t *room, size_t room_length);
 
-/* ---- the book of test pieces: text, a frame a line, answered a line each: `N ok GREATEST PAST` or `N no NUMBER`, N the line's number */
+/* ---- the book of test pieces: text, a frame a line, answered a line each: `N ok GREATEST PAST` or `N no NUMBER`, N the line's number. These take up to
+ * 14 KB of stack. */
 
 /* What a piece of a book, or its end, gave: the line that is being read, by its number, from 1, and how many of its bytes the buffer holds; and how
  * many bytes of the room were written. */
@@ -569,7 +583,7 @@ bulmegart_place_figures bulmegart_at_place(const uint32_t blocks[BULMEGART_PLACE
 /* The tally of a number. 4 (not 1 to 24). */
 bulmegart_tally bulmegart_tally_of(const uint32_t tallies[BULMEGART_NUMBERS], bulmegart_totals totals, uint32_t number);
 
-/* ---- the press: a frame of the book from a drawing */
+/* ---- the press: a frame of the book from a drawing. It takes up to 80 KB of stack, for the longest list of a block. */
 
 typedef struct {
     uint32_t number;
@@ -691,6 +705,9 @@ BULMEGART_AT(found, column, 4);
 BULMEGART_AT(found, row, 8);
 BULMEGART_AT(found, greatest, 12);
 BULMEGART_SIZE(found, 16);
+BULMEGART_AT(reached_answer, state, 0);
+BULMEGART_AT(reached_answer, past, 24);
+BULMEGART_SIZE(reached_answer, 32);
 BULMEGART_AT(block_answer, number, 0);
 BULMEGART_AT(block_answer, found, 4);
 BULMEGART_AT(block_answer, state, 24);
