@@ -4,12 +4,13 @@
     case_lines.py VECTORS FILE [MORE..]   FILE is crates/cases/stdin: what stands behind its line MARK is written anew
     case_lines.py VECTORS FILE all        FILE gets every record of the vectors, not only a sample
 
-VECTORS has hevc.txt, rext.txt, forced.txt, cross.txt, init.txt, engine.txt (VECTORS/FORMAT.md) and the folder 02 with the files REQUESTS,
+VECTORS has hevc.txt, rext.txt, forced.txt, cross.txt, h264.txt, init.txt, engine.txt (VECTORS/FORMAT.md) and the folder 02 with the files REQUESTS,
 whose lines are records already (VECTORS/FORMAT-02.md). MORE is what `oracle sample` and `oracle packsample` write (oracle/README.md), records too.
 
 A block of a stream becomes a record of the payload reader, one of the bin reader, which the program writes again, and one of the bin writer
 with a room of one byte less than that list; its row extent is the greatest row that has a level. A plain block becomes the same three of the
-plain entry points; and the list of every block, sampled or not, a record of the packer. A scale becomes the same as a block. A slice becomes a record for each segment, and where it restarts one of byte alignment.
+plain entry points; and the list of every block, sampled or not, a record of the packer. A scale becomes the same as a block. A block of H.264
+becomes a record of the payload reader, one of the list reader, one of the writer, whose list is the recorded one, and one for a room of a byte less; all of them are in. A slice becomes a record for each segment, and where it restarts one of byte alignment.
 """
 import os
 import sys
@@ -138,6 +139,35 @@ def tables(folder):
             yield f"init values={values} q={q} => answer=0 ctx={contexts}"
 
 
+def h264_tables(folder):
+    yield "# H.264: contexts of real streams, from their pairs"
+    for line in lines_of(folder, "init.txt"):
+        fields = line.split(" ")
+        if fields[0] == "J":
+            _, _, q, pairs, contexts = fields
+            yield f"h264init q={q} pairs={pairs} => answer=0 ctx={contexts}"
+
+
+def h264_blocks(folder):
+    """Every block. Category, field and depth are no arguments: they say which contexts were lent, not how they are used."""
+    yield "# H.264: blocks of real streams: by the payload reader, by the list reader, and by the writer, whose list is the same, and 12"
+    for line in lines_of(folder, "h264.txt"):
+        fields = line.split(" ")
+        if fields[0] == "H":
+            _, _, _, _, _, r, o, p, payload, contexts, bins, answer, levels, r2, o2, p2, changes = fields
+            # a refused one would hand nothing back, and have no list to be written again
+            if answer != "0":
+                sys.exit(f"not an accepted block: {line}")
+            length = len(bins) // 2
+            yield (
+                f"h264 payload={payload} state={r},{o},{p},0,0 ctx={contexts} => "
+                f"answer=0 levels={levels} state={r2},{o2},{p2},0,0 changes={by_number(changes)}"
+            )
+            yield f"h264list list={bins} => answer=0 levels={levels}"
+            yield f"h264write levels={levels} room={length} => answer=0 length={length} list={bins}"
+            yield f"h264write levels={levels} room={length - 1} => answer=12"
+
+
 def by_number(changes):
     return "-" if changes == "-" else ",".join(sorted(changes.split(","), key=lambda c: int(c.split(":")[0])))
 
@@ -180,7 +210,8 @@ def main():
     if not every:
         kept = lines_of(name)
         kept = kept[: kept.index(MARK) + 1]
-    written = [*requests(folder), *tables(folder), *slices(folder, every), *scales(folder), *blocks(folder, every), *plain_blocks(folder, every), *packs(folder)]
+    written = [*requests(folder), *tables(folder), *h264_tables(folder), *slices(folder, every), *scales(folder), *h264_blocks(folder)]
+    written += [*blocks(folder, every), *plain_blocks(folder, every), *packs(folder)]
     for name_of_more in more if not every else ():
         written += lines_of(name_of_more)
     with open(name, "w", encoding="ascii") as lines:
