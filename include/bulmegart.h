@@ -1,9 +1,9 @@
 /* Bulmegart for C: the arithmetic engine of H.265 (CABAC), the two readers of a residual block, the writer of bins, the scale of
  * cross-component prediction, and H.264's 4x4 block.
  *
- * Link target/archive/libbulmegart.a, which `tools/archive` proves and writes for the machine at hand (Linux on x86-64 or Arm). Nothing is
- * allocated, nothing is kept between calls, so any thread may call any of them. At most 5 KB of stack are taken where
- * nothing else is said.
+ * Link target/archive/libbulmegart.a, which `tools/archive` proves and writes for the machine at hand (Linux on x86-64 or Arm); examples/read_block.c reads
+ * a block, examples/every_function.c calls each function. "Document 01" and "request (i)" and so on are the customer's papers: what they ask for is said
+ * here. Nothing is allocated, nothing is kept between calls, so any thread may call any of them. At most 5 KB of stack are taken where nothing else is said.
  *
  * A function, a field or a number has here the name that it has in Rattle, in bindings/rust and, where it stands there, in the Rust
  * (docs/ARCHITECTURE.md has the table).
@@ -41,8 +41,8 @@ uint32_t bulmegart_version(void);
 
 /* ---- numbers */
 
-/* An answer's `number` is document 01's. Where several apply: 1, 2, 4, 3, 6, 5, then the order of reading. After any refusal the state, contexts
- * and statistics are those handed in. */
+/* An answer's `number` is document 01's. Where several apply: 1, 2, 4, 3, 6, 5, then the order of reading; each function has its own below, in the order in
+ * which they are looked for. After any refusal the state, contexts and statistics are those handed in. */
 enum {
     BULMEGART_ACCEPTED = 0,
     BULMEGART_SHORT_PAYLOAD = 1,
@@ -53,14 +53,17 @@ enum {
     BULMEGART_BAD_START = 5,
     BULMEGART_ENDED = 6,
     BULMEGART_BAD_ALIGNMENT = 7,
-    BULMEGART_LEVEL_OUT_OF_RANGE = 8,
+    BULMEGART_LEVEL_OUT_OF_RANGE = 8, /* levels are -2^T to 2^T - 1: T is 15; with `extended` depth + 6, if that is more */
     BULMEGART_ALL_ZERO = 9,
-    BULMEGART_NOT_CODED = 10,
+    BULMEGART_NOT_CODED = 10, /* skip is coded where skip_allowed is 1 and lossless 0; RDPCM where explicit_rdpcm and inter are 1, and skip or lossless */
     BULMEGART_HIDDEN_SIGN = 11,
     BULMEGART_SHORT_ROOM = 12,
     BULMEGART_BAD_LIST = 13,
-    BULMEGART_FIGURES_FULL = 23,
-    BULMEGART_NOT_PLAIN = 24 /* the plain functions alone */
+    BULMEGART_BAD_LINE = 20,     /* the book alone: also an odd count of digits, and no line feed at the end */
+    BULMEGART_LINE_LENGTH = 21,  /* the book alone */
+    BULMEGART_LONG_LINE = 22,    /* the book and the press alone: a payload over 4,096 bytes */
+    BULMEGART_FIGURES_FULL = 23, /* the figures alone */
+    BULMEGART_NOT_PLAIN = 24     /* the plain functions alone */
 };
 
 /* A number in words. */
@@ -80,8 +83,11 @@ static inline const char *bulmegart_reason(uint32_t number) {
     case BULMEGART_HIDDEN_SIGN: return "writer: a hidden sign disagrees with its parity";
     case BULMEGART_SHORT_ROOM: return "writer: list longer than the room";
     case BULMEGART_BAD_LIST: return "bin reader: list ends early, has another tag, or has bins left over";
-    case BULMEGART_NOT_PLAIN: return "plain functions: an option or a statistic outside plain";
+    case BULMEGART_BAD_LINE: return "book: line is not lower-case hexadecimal";
+    case BULMEGART_LINE_LENGTH: return "book: line is not as long as it says";
+    case BULMEGART_LONG_LINE: return "book: line is too long";
     case BULMEGART_FIGURES_FULL: return "figures: 4,096 accepted blocks are there";
+    case BULMEGART_NOT_PLAIN: return "plain functions: an option or a statistic outside plain";
     default: return "another number";
     }
 }
@@ -164,22 +170,22 @@ typedef struct {
     size_t length;
 } bulmegart_rest_answer;
 
-/* What the slice and the coding unit have settled before the block. */
+/* What the slice and the coding unit have settled before the block, with H.265's names. */
 typedef struct {
-    uint32_t log2;           /* 2 to 5: the block is n by n, n = 2^log2 */
-    uint32_t scan;           /* 0 diagonal, 1 rows, 2 columns */
+    uint32_t log2;           /* 2 to 5: the block is n by n, n = 2^log2 (log2TrafoSize) */
+    uint32_t scan;           /* 0 diagonal, 1 rows, 2 columns (scanIdx) */
     uint32_t depth;          /* bit depth of the component, 8 to 16 */
-    uint8_t luma;            /* flag: 1 luma, 0 chroma; and flags all that follow */
-    uint8_t hiding;          /* sign hiding enabled */
-    uint8_t skip_allowed;    /* transform skip may be coded */
-    uint8_t lossless;        /* transquant bypass */
-    uint8_t persistent;      /* persistent Rice */
-    uint8_t skip_context;    /* skip context enabled */
-    uint8_t explicit_rdpcm;  /* explicit RDPCM enabled */
-    uint8_t implicit_rdpcm;  /* implicit RDPCM enabled, in an intra block of mode 10 or 26 */
-    uint8_t inter;           /* inter block */
-    uint8_t aligning;        /* bypass alignment enabled */
-    uint8_t extended;        /* extended precision */
+    uint8_t luma;            /* flag: 1 luma, 0 chroma (cIdx is 0); and flags all that follow */
+    uint8_t hiding;          /* sign hiding enabled (sign_data_hiding_enabled_flag) */
+    uint8_t skip_allowed;    /* transform skip may be coded (transform_skip_enabled_flag, and log2 is at most Log2MaxTransformSkipSize) */
+    uint8_t lossless;        /* transquant bypass (cu_transquant_bypass_flag) */
+    uint8_t persistent;      /* persistent Rice (persistent_rice_adaptation_enabled_flag) */
+    uint8_t skip_context;    /* skip context enabled (transform_skip_context_enabled_flag) */
+    uint8_t explicit_rdpcm;  /* explicit RDPCM enabled (explicit_rdpcm_enabled_flag) */
+    uint8_t implicit_rdpcm;  /* implicit RDPCM enabled (implicit_rdpcm_enabled_flag), in an intra block of mode 10 or 26 */
+    uint8_t inter;           /* inter block (CuPredMode is MODE_INTER) */
+    uint8_t aligning;        /* bypass alignment enabled (cabac_bypass_alignment_enabled_flag) */
+    uint8_t extended;        /* extended precision (extended_precision_processing_flag) */
 } bulmegart_params;
 
 /* Explicit RDPCM, here a byte. Document 01 says none, 0, 1: its direction is one less than this. */
@@ -231,12 +237,13 @@ typedef struct {
     uint32_t number;
     bulmegart_params params;
 } bulmegart_params_answer;
+
 /* ---- structs of a kept block and of figures */
 
 /* What a kept block is made for. */
 typedef struct {
     uint32_t log2;  /* 2 to 5: the block is n by n, n = 2^log2 */
-    uint32_t bits;  /* T, 15 to 22: levels are -2^T to 2^T - 1 */
+    uint32_t bits;  /* T, 15 to 22: levels are -2^T to 2^T - 1. Of parameters T is 15; with `extended` depth + 6, if that is more */
 } bulmegart_form;
 
 /* The record of the whole. Sub-block (x, y) of 4x4 levels has the number y·(n/4) + x. */
@@ -297,14 +304,15 @@ enum { BULMEGART_PLACES = 1024, BULMEGART_NUMBERS = 24 };
 
 /* ---- contexts */
 
-/* The packed context of an initial value at a QP; a QP above 51 counts as 51. No refusal. */
+/* The packed context of an initial value at a QP (SliceQpY; 0 for one below 0); a QP above 51 counts as 51. No refusal. */
 uint8_t bulmegart_init(uint8_t value, uint8_t qp);
 
-/* Numbers: 4 unless there are BULMEGART_CONTEXTS values. Accepted: the contexts made of the values, the statistics 0; refused: both untouched. */
+/* Gives a number: 4 unless there are BULMEGART_CONTEXTS values, whose order is that of the contexts. Accepted: the contexts made of the values at the QP,
+ * the statistics 0; refused: both untouched. */
 uint32_t bulmegart_init_contexts(uint8_t contexts[BULMEGART_CONTEXTS], uint8_t statistics[BULMEGART_STATISTICS], const uint8_t *values,
                                  size_t values_length, uint8_t qp);
 
-/* ---- the engine; no buffer is written */
+/* ---- the engine; no buffer is written. `flags` is the state's `ended`. */
 
 /* Start: range 510, offset the first 9 bits. 1, 2, 5. */
 bulmegart_state_answer bulmegart_start(const uint8_t *payload, size_t length);
@@ -346,8 +354,8 @@ bulmegart_block_answer bulmegart_residual_coding(const uint8_t *payload, size_t 
                                             bulmegart_params params, int32_t *levels, size_t levels_length);
 
 /* Where a call of bulmegart_residual_coding with the same arguments ends, by 7 or 8 too, and how many bits past the payload's end that call draws, up to
- * 65,535; a total handed in is not counted. Where another number refuses the call: the state handed in, and 0. Nothing is written. Takes up to 10 KB of
- * stack. */
+ * 65,535; a total handed in is not counted. Where another number refuses the call: the state handed in, and 0. Nothing is written; what the levels hold does
+ * not matter. Takes up to 10 KB of stack. */
 typedef struct {
     bulmegart_state state;
     uint32_t past;
@@ -441,17 +449,18 @@ bulmegart_params_answer bulmegart_plain_params(uint32_t log2, uint32_t scan, uin
                                                uint8_t lossless, uint8_t inter);
 
 /* From a payload. 1, 2, 4 (parameters, flags, short block), 24, 3 (state or context), 6; then 8.
- * Accepted: n·n levels, the contexts as the block left them. 8: n·n levels zero. Any other number: levels untouched. */
+ * Accepted: n·n levels, the contexts as the block left them. 8: n·n levels zero, contexts untouched. Any other number: both untouched. */
 bulmegart_block_answer bulmegart_residual_coding_plain(const uint8_t *payload, size_t length, bulmegart_state state,
                                                        uint8_t contexts[BULMEGART_CONTEXTS], uint8_t statistics[BULMEGART_STATISTICS],
                                                        bulmegart_params params, int32_t *levels, size_t levels_length);
 
-/* From a bin list. 4 (parameters, flags, short block), 24; then 8 or 13 in the order of reading, with n·n levels zero. */
+/* From a bin list. 4 (parameters, flags, short block), 24; then 8 or 13 in the order of reading.
+ * Accepted: n·n levels. 4, 24: untouched. 8, 13: n·n levels zero. */
 bulmegart_list_answer bulmegart_read_bins_plain(const uint8_t *list, size_t length, uint8_t statistics[BULMEGART_STATISTICS],
                                                 bulmegart_params params, int32_t *levels, size_t levels_length);
 
-/* A block as a bin list in the room. 4 (parameters, flags, RDPCM above 2, short block), 24, 9, 10 (any RDPCM, since none is coded), 8, 11, 12; the
- * room is then untouched. */
+/* A block as a bin list in the room. 4 (parameters, flags, RDPCM above 2, short block), 24, 9, 10 (any RDPCM, since none is coded), 8, 11, 12.
+ * Accepted: the list at the front of the room, which is untouched beyond it. Refused: untouched. */
 bulmegart_write_answer bulmegart_write_bins_plain(bulmegart_params params, uint8_t statistics[BULMEGART_STATISTICS], const int32_t *levels,
                                                   size_t levels_length, uint8_t skip, uint8_t rdpcm, uint8_t *room, size_t room_length);
 
@@ -465,7 +474,8 @@ bulmegart_write_answer bulmegart_write_bins_plain(bulmegart_params params, uint8
 bulmegart_write_answer bulmegart_pack_bins(const uint8_t contexts[BULMEGART_CONTEXTS], const uint8_t statistics[BULMEGART_STATISTICS],
                                            bulmegart_params params, const uint8_t *list, size_t length, uint8_t *room, size_t room_length);
 
-/* A scale's list. 4 (component above 1), 3 (contexts), 13, 12. */
+/* A scale's list. 4 (component above 1), 3 (contexts), 13 if bulmegart_read_scale_bins refuses the list by 13, 12 exactly if the payload is longer than the
+ * room. A room of (length / 2 * 7 + 16) / 8 bytes is never too small. */
 bulmegart_write_answer bulmegart_pack_scale(const uint8_t contexts[BULMEGART_CONTEXTS], uint32_t component, const uint8_t *list, size_t length,
                                             uint8_t *room, size_t room_length);
 
@@ -486,7 +496,11 @@ bulmegart_pack_tray_answer bulmegart_pack_tray(const uint8_t contexts[BULMEGART_
                                                uint8_t *room, size_t room_length);
 
 /* ---- the book of test pieces: text, a frame a line, answered a line each: `N ok GREATEST PAST` or `N no NUMBER`, N the line's number. These take up to
- * 14 KB of stack. */
+ * 14 KB of stack.
+ *
+ * A frame is 8 bytes (log2 size, luma 1 or chroma 0, scan, bit depth, QP, hiding 0 or 1, the payload's length in two, high first), BULMEGART_CONTEXTS initial
+ * values and the payload, at most 4,096 bytes; its line has two lower-case hexadecimal digits for each byte, nothing between them, and a line feed behind. The
+ * other parameters are 0. A line's NUMBER is the first of 22, 20, 21, 1, 4, 5, 8 that holds; GREATEST and PAST are the block's. */
 
 /* What a piece of a book, or its end, gave: the line that is being read, by its number, from 1, and how many of its bytes the buffer holds; and how
  * many bytes of the room were written. */
@@ -504,28 +518,33 @@ enum {
 };
 
 /* A piece of a book, of any length and cut anywhere: the answers to the lines that end in it, at the front of the room. The first call is handed line
- * 1 and 0 held, each other what the call before it gave, with the same buffer. tally[n] grows by one for each line that was answered by n, where it
- * has that place. 4 (a buffer of another length than BULMEGART_BOOK_BUFFER; more held; no number left for the lines that could end), 12 (the room has not
- * BULMEGART_BOOK_ANSWER bytes for each byte of the piece). Refused: all untouched. */
+ * 1 and 0 held, whatever the buffer holds, each other what the call before it gave, with the same buffer. tally[n] grows by one for each line that was
+ * answered by n, 0 being ok, where it has that place, and stops at 2^64 - 1. 4 (a buffer of another length than BULMEGART_BOOK_BUFFER; more held; no number left
+ * for the lines that could end), 12 (the room has not BULMEGART_BOOK_ANSWER bytes for each byte of the piece). Accepted: nothing is said of the room beyond
+ * what was written, nor of the buffer beyond what is held. Refused: all untouched, line and held as handed in, 0 written. */
 bulmegart_book_answer bulmegart_book_feed(const uint8_t *piece, size_t length, uint8_t *buffer, size_t buffer_length, uint64_t line, size_t held,
                                           uint64_t *tally, size_t tally_length, uint8_t *room, size_t room_length);
 
-/* The end of a book: the answer to the line that was not finished, if there is one. 4, 12 (less room than BULMEGART_BOOK_ANSWER). */
-bulmegart_book_answer bulmegart_book_end(const uint8_t *buffer, size_t buffer_length, uint64_t line, size_t held, uint64_t *tally,
+/* The end of a book: the answer to the line that was not finished, if there is one. 4 (as above), 12 (less room than BULMEGART_BOOK_ANSWER). Accepted: the
+ * tally as above, and nothing is said of line, held and the room beyond what was written; another book begins with line 1 and 0 held. Refused: all
+ * untouched. */
+bulmegart_book_answer bulmegart_book_finish(const uint8_t *buffer, size_t buffer_length, uint64_t line, size_t held, uint64_t *tally,
                                          size_t tally_length, uint8_t *room, size_t room_length);
+
 /* ---- a block with its summary kept beside it: one record (count, sum) for each 4x4 sub-block and one for the whole
  *
  * The caller lends the levels, 64 counts, 64 sums, and hands the form and the record of the whole in and back. 4 for every function: a form that
- * is none, or fewer than n·n places. A kept block begins with bulmegart_clear_kept. The records are what a fresh count gives after each function
- * that counts (clear, copy, count, a reading that comes to the block), whatever stood there, and after bulmegart_set_level if they were before.
- * Records that are not are taken all the same: set counts its own sub-block anew and adds up the others as they are, a sum stopping at 2^64 - 1. */
+ * is none, or fewer than n·n places; then nothing changes. A kept block begins with bulmegart_clear_kept, whatever the buffers and the record hold. The
+ * records are what a fresh count gives after each function that counts (clear, copy, count, a reading that comes to the block), whatever stood there, and
+ * after bulmegart_set_level if they were before. Records that are not are taken all the same: set counts its own sub-block anew and adds up the others as
+ * they are, a sum stopping at 2^64 - 1. */
 
 /* One level at a place, y·n + x. 4 (place outside the block), 8 (level outside the range); nothing changes. Else the place, its sub-block's record
  * and the record of the whole change, and nothing else. */
 bulmegart_changed bulmegart_set_level(int32_t *levels, size_t levels_length, uint32_t counts[BULMEGART_RECORDS], uint64_t sums[BULMEGART_RECORDS],
                                      bulmegart_form form, bulmegart_whole whole, size_t place, int32_t level);
 
-/* n·n levels zero, and their records. */
+/* n·n levels zero, and their records. 4. */
 bulmegart_changed bulmegart_clear_kept(int32_t *levels, size_t levels_length, uint32_t counts[BULMEGART_RECORDS], uint64_t sums[BULMEGART_RECORDS],
                                        bulmegart_form form, bulmegart_whole whole);
 
@@ -533,7 +552,7 @@ bulmegart_changed bulmegart_clear_kept(int32_t *levels, size_t levels_length, ui
 bulmegart_changed bulmegart_copy_in(int32_t *levels, size_t levels_length, uint32_t counts[BULMEGART_RECORDS], uint64_t sums[BULMEGART_RECORDS],
                                       bulmegart_form form, bulmegart_whole whole, bulmegart_form other, const int32_t *from, size_t from_length);
 
-/* A fresh count of the levels that stand there. */
+/* A fresh count of the levels that stand there, whatever their range. 4. */
 bulmegart_changed bulmegart_recount(const int32_t *levels, size_t levels_length, uint32_t counts[BULMEGART_RECORDS],
                                        uint64_t sums[BULMEGART_RECORDS], bulmegart_form form, bulmegart_whole whole);
 
@@ -556,13 +575,13 @@ bulmegart_kept_list_answer bulmegart_read_kept_bins(const uint8_t *list, size_t 
  *
  * The caller lends three arrays of 1,024 (for each place: blocks with a non-zero level there, the sum of magnitudes, the greatest) and 24 tallies
  * (of number k at k - 1), and hands the totals in and back. After a refusal all is as it was. Figures that no blocks give are taken all the same:
- * a sum stops at the greatest number of its width. */
+ * a sum stops at the greatest number of its width. Figures begin with bulmegart_begin_figures, whatever the arrays and the totals hold. */
 
 /* No blocks and no refusals yet, of side 2^log2, whatever stood there. 4 (log2 not 2 to 5). */
 bulmegart_added bulmegart_begin_figures(uint32_t blocks[BULMEGART_PLACES], uint64_t sums[BULMEGART_PLACES], uint32_t greatests[BULMEGART_PLACES],
                                         uint32_t tallies[BULMEGART_NUMBERS], bulmegart_totals totals, uint32_t log2);
 
-/* An accepted block with its total past the end. 4 (another size, or fewer than n·n places), 23 (4,096 are there). */
+/* An accepted block with its total past the end, the `past` of the state behind it. 4 (another size, or fewer than n·n places), 23 (4,096 are there). */
 bulmegart_added bulmegart_add_block(uint32_t blocks[BULMEGART_PLACES], uint64_t sums[BULMEGART_PLACES],
                                             uint32_t greatests[BULMEGART_PLACES], bulmegart_totals totals, uint32_t log2, const int32_t *levels,
                                             size_t levels_length, uint32_t past);
@@ -583,11 +602,12 @@ bulmegart_place_figures bulmegart_at_place(const uint32_t blocks[BULMEGART_PLACE
 /* The tally of a number. 4 (not 1 to 24). */
 bulmegart_tally bulmegart_tally_of(const uint32_t tallies[BULMEGART_NUMBERS], bulmegart_totals totals, uint32_t number);
 
-/* ---- the press: a frame of the book from a drawing. It takes up to 80 KB of stack, for the longest list of a block. */
+/* ---- the press: a frame of the book from a drawing; the book's line of it has two digits for each byte. It takes up to 80 KB of stack, for the longest list
+ * of a block. */
 
 typedef struct {
     uint32_t number;
-    size_t length;
+    size_t length;  /* of the frame, in bytes; 0 after a refusal */
 } bulmegart_press_answer;
 
 enum { BULMEGART_PRESS_ROOM = 4234 }; /* bytes of the longest frame */
@@ -603,10 +623,11 @@ bulmegart_press_answer bulmegart_press(const uint8_t *head, size_t head_length, 
  * Levels stand by list place, 0 to 15, in the order of the scan: to undo the scan is the caller's. At least 16 places are lent, and those past 16
  * are never looked at or changed. Each level is -32768 to 32767. Entries of a list are as above, with the numbers of these contexts. */
 
+/* Contexts, and pairs m, n, in this order; the pairs are H.264's (9.3.1.1) for ctxBlockCat 2, by ctxIdx from the one that is named on. */
 enum {
-    BULMEGART_H264_SIGNIFICANCE = 0, /* 15: list place (significant_coeff_flag) */
-    BULMEGART_H264_LAST = 15,        /* 15: list place (last_significant_coeff_flag) */
-    BULMEGART_H264_MAGNITUDE = 30,   /* 10: 5 of the first bin, 5 of the others (coeff_abs_level_minus1) */
+    BULMEGART_H264_SIGNIFICANCE = 0, /* 15: list place (significant_coeff_flag; from 134, in fields from 306) */
+    BULMEGART_H264_LAST = 15,        /* 15: list place (last_significant_coeff_flag; from 195, in fields from 367) */
+    BULMEGART_H264_MAGNITUDE = 30,   /* 10: 5 of the first bin, 5 of the others (coeff_abs_level_minus1; from 247) */
     BULMEGART_H264_CONTEXTS = 40
 };
 
@@ -621,7 +642,7 @@ typedef struct {
 
 typedef struct {
     uint32_t number;
-    uint32_t greatest;
+    uint32_t greatest;      /* greatest magnitude; 0 after a refusal */
 } bulmegart_h264_list_answer;
 
 /* The contexts from 40 pairs m, n, handed as 80 numbers m, n, m, n, ..; numbers is how many are lent. A QP above 51 counts as 51.
@@ -762,26 +783,35 @@ BULMEGART_AT(book_answer, line, 8);
 BULMEGART_AT(book_answer, held, 16);
 BULMEGART_AT(book_answer, written, 24);
 BULMEGART_SIZE(book_answer, 32);
+BULMEGART_AT(form, log2, 0);
 BULMEGART_AT(form, bits, 4);
 BULMEGART_SIZE(form, 8);
+BULMEGART_AT(whole, count, 0);
 BULMEGART_AT(whole, sum, 8);
 BULMEGART_AT(whole, map, 16);
 BULMEGART_SIZE(whole, 24);
+BULMEGART_AT(changed, number, 0);
 BULMEGART_AT(changed, whole, 8);
 BULMEGART_SIZE(changed, 32);
+BULMEGART_AT(kept_block_answer, block, 0);
 BULMEGART_AT(kept_block_answer, whole, 48);
 BULMEGART_SIZE(kept_block_answer, 72);
+BULMEGART_AT(kept_list_answer, list, 0);
 BULMEGART_AT(kept_list_answer, whole, 24);
 BULMEGART_SIZE(kept_list_answer, 48);
+BULMEGART_AT(totals, log2, 0);
 BULMEGART_AT(totals, accepted, 4);
 BULMEGART_AT(totals, past, 8);
 BULMEGART_SIZE(totals, 16);
+BULMEGART_AT(added, number, 0);
 BULMEGART_AT(added, totals, 8);
 BULMEGART_SIZE(added, 24);
+BULMEGART_AT(place_figures, number, 0);
 BULMEGART_AT(place_figures, blocks, 4);
 BULMEGART_AT(place_figures, greatest, 8);
 BULMEGART_AT(place_figures, sum, 16);
 BULMEGART_SIZE(place_figures, 24);
+BULMEGART_AT(tally, number, 0);
 BULMEGART_AT(tally, count, 4);
 BULMEGART_SIZE(tally, 8);
 BULMEGART_AT(press_answer, number, 0);

@@ -28,7 +28,7 @@ fn book(text: &[u8], answers: &mut Vec<u8>) -> u64 {
     for piece in text.chunks(4096) {
         book.feed(piece, answers);
     }
-    book.end(answers)[0]
+    book.finish(answers)[0]
 }
 
 /// The frames as bytes: contexts, start, block.

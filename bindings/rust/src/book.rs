@@ -42,8 +42,8 @@ extern "C" {
         room: *mut u8,
         room_length: usize,
     ) -> RawBookAnswer;
-    /// See [`Book::end`]. Sound as [`bulmegart_book_feed`] is.
-    pub fn bulmegart_book_end(
+    /// See [`Book::finish`]. Sound as [`bulmegart_book_feed`] is.
+    pub fn bulmegart_book_finish(
         buffer: *const u8,
         buffer_length: usize,
         line: u64,
@@ -65,7 +65,7 @@ extern "C" {
 /// for piece in frame.as_bytes().chunks(7) {
 ///     book.feed(piece, &mut answers);
 /// }
-/// let tally = book.end(&mut answers);
+/// let tally = book.finish(&mut answers);
 /// assert_eq!(answers, b"1 ok 1 0\n");
 /// assert_eq!(tally[0], 1);
 /// ```
@@ -114,10 +114,10 @@ impl Book {
 
     /// The end of the book: bytes behind its last line feed are a line that was not finished, `no 20` or `no 22`. Gives how often each number was
     /// given; 0 is `ok`.
-    pub fn end(mut self, answers: &mut Vec<u8>) -> [u64; NUMBERS] {
+    pub fn finish(mut self, answers: &mut Vec<u8>) -> [u64; NUMBERS] {
         // Sound: as above.
         let given = unsafe {
-            bulmegart_book_end(
+            bulmegart_book_finish(
                 self.buffer.as_ptr(),
                 self.buffer.len(),
                 self.line,

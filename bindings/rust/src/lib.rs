@@ -2,9 +2,11 @@
 //! prediction, proved in Rattle, as safe functions.
 //!
 //! Each function takes any slices, any state and any numbers, and ends. A refusal is `Err` with document 01's number, a [`Refusal`]; contexts and
-//! statistics are then those handed in, and the caller's state stands.
+//! statistics are then those handed in, and the caller's state stands. "Document 01" and "request (i)" and so on are the customer's papers: what they
+//! ask for is said here.
 //!
-//! A payload is a slice's data with its emulation prevention bytes taken out. A list of bins has two bytes for each entry, low byte first:
+//! A payload is a slice's data with its emulation prevention bytes taken out. The initial values are H.265's (9.3.2) for the slice's initType, in the order of
+//! [`contexts`]; the QP is SliceQpY, and 0 for one below 0. A list of bins has two bytes for each entry, low byte first:
 //! 2·context number + bin, [`BYPASS_ENTRY`] + bin, or [`ALIGNMENT_ENTRY`] where the range is aligned. Lengths count bytes.
 //!
 //! A [`Reader`] carries payload, state, contexts and statistics from one call to the next:
@@ -126,36 +128,36 @@ pub struct State {
     pub past: u32,
 }
 
-/// What the slice and the coding unit have settled before the block.
+/// What the slice and the coding unit have settled before the block, with H.265's names.
 #[derive(Clone, Copy, Debug, PartialEq, Eq)]
 pub struct Params {
-    /// 2 to 5: the block is n by n, n = 2^log2.
+    /// 2 to 5: the block is n by n, n = 2^log2 (`log2TrafoSize`).
     pub log2: u32,
-    /// 0 diagonal, 1 rows, 2 columns.
+    /// 0 diagonal, 1 rows, 2 columns (`scanIdx`).
     pub scan: u32,
     /// Bit depth of the component, 8 to 16.
     pub depth: u32,
     /// Luma; else chroma.
     pub luma: bool,
-    /// Sign hiding enabled.
+    /// Sign hiding enabled (`sign_data_hiding_enabled_flag`).
     pub hiding: bool,
-    /// Transform skip may be coded.
+    /// Transform skip may be coded (`transform_skip_enabled_flag`, and log2 is at most `Log2MaxTransformSkipSize`).
     pub skip_allowed: bool,
-    /// Transquant bypass.
+    /// Transquant bypass (`cu_transquant_bypass_flag`).
     pub lossless: bool,
-    /// Persistent Rice.
+    /// Persistent Rice (`persistent_rice_adaptation_enabled_flag`).
     pub persistent: bool,
-    /// Skip context enabled.
+    /// Skip context enabled (`transform_skip_context_enabled_flag`).
     pub skip_context: bool,
-    /// Explicit RDPCM enabled.
+    /// Explicit RDPCM enabled (`explicit_rdpcm_enabled_flag`).
     pub explicit_rdpcm: bool,
-    /// Implicit RDPCM enabled, in an intra block of mode 10 or 26.
+    /// Implicit RDPCM enabled (`implicit_rdpcm_enabled_flag`), in an intra block of mode 10 or 26.
     pub implicit_rdpcm: bool,
-    /// Inter block.
+    /// Inter block (`CuPredMode` is `MODE_INTER`).
     pub inter: bool,
-    /// Bypass alignment enabled.
+    /// Bypass alignment enabled (`cabac_bypass_alignment_enabled_flag`).
     pub aligning: bool,
-    /// Extended precision.
+    /// Extended precision (`extended_precision_processing_flag`).
     pub extended: bool,
 }
 

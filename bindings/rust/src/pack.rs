@@ -47,7 +47,7 @@ pub const fn longest_payload(log2: u32) -> usize {
 /// A block's bin list as a payload at the front of the room, by H.265's arithmetic writer. Answers its length; the room beyond it is untouched.
 ///
 /// [`start`](crate::start) on the payload is accepted; [`residual_coding`](crate::residual_coding) with the same contexts and statistics then gives what
-/// [`read_bins`](crate::read_bins) gives of the list, with no bit past the end; [`terminate`](crate::terminate) then is 1, and the length is the
+/// [`read_bins`](crate::read_bins) gives of the list, with no bit past the end; [`decode_terminate`](crate::decode_terminate) then is 1, and the length is the
 /// position after it in whole bytes, rounded up. Zero bits fill the last byte.
 ///
 /// ```
@@ -103,7 +103,7 @@ pub struct PackedTray {
 /// carried on from list to list, and the flush is one. Each list ends where its block does. The room beyond the payload is untouched.
 ///
 /// [`start`](crate::start) on the payload is accepted; [`read_tray`](crate::read_tray) with the same records, contexts and statistics then does every block
-/// and gives what the lists hold; [`terminate`](crate::decode_terminate) then is 1.
+/// and gives what the lists hold; [`decode_terminate`](crate::decode_terminate) then is 1.
 ///
 /// ```
 /// use bulmegart::{pack_tray, payload_bound, Params, Record, CONTEXTS};

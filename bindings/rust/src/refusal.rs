@@ -22,11 +22,13 @@ pub enum Refusal {
     Ended = 6,
     /// 7: alignment wanted while the offset is 256 or more.
     BadAlignment = 7,
-    /// 8: level outside the coefficient range.
+    /// 8: level outside the coefficient range, −2^T to 2^T − 1: T is 15; with [`extended`](crate::Params::extended)
+    /// depth + 6, if that is more.
     LevelOutOfRange = 8,
     /// 9: writer: all levels zero.
     AllZero = 9,
-    /// 10: writer: skip or RDPCM set where it isn't coded.
+    /// 10: writer: skip or RDPCM set where it isn't coded. Skip is coded where it is allowed and the block not lossless, RDPCM where it is enabled in an
+    /// inter block with skip or lossless.
     NotCoded = 10,
     /// 11: writer: a hidden sign disagrees with its parity.
     HiddenSign = 11,
@@ -34,6 +36,12 @@ pub enum Refusal {
     ShortRoom = 12,
     /// 13: bin reader: list ends early, has another tag, or has bins left over.
     BadList = 13,
+    /// 20: book: line is not lower-case hexadecimal, has an odd count of digits, or no line feed at the end.
+    BadLine = 20,
+    /// 21: book: line is not as long as it says.
+    LineLength = 21,
+    /// 22: book: line is too long; press: a payload over 4,096 bytes, whose line would be.
+    LongLine = 22,
     /// 23: figures: 4,096 accepted blocks are there.
     FiguresFull = 23,
     /// 24: plain functions: an option or a statistic outside plain.
@@ -42,7 +50,7 @@ pub enum Refusal {
 
 impl Refusal {
     /// All of them, in the order of their numbers.
-    pub const ALL: [Refusal; 15] = [
+    pub const ALL: [Refusal; 18] = [
         Refusal::ShortPayload,
         Refusal::LongPayload,
         Refusal::ImpossibleState,
@@ -56,6 +64,9 @@ impl Refusal {
         Refusal::HiddenSign,
         Refusal::ShortRoom,
         Refusal::BadList,
+        Refusal::BadLine,
+        Refusal::LineLength,
+        Refusal::LongLine,
         Refusal::FiguresFull,
         Refusal::NotPlain,
     ];
@@ -86,6 +97,9 @@ impl Refusal {
             Refusal::HiddenSign => "writer: a hidden sign disagrees with its parity",
             Refusal::ShortRoom => "writer: list longer than the room",
             Refusal::BadList => "bin reader: list ends early, has another tag, or has bins left over",
+            Refusal::BadLine => "book: line is not lower-case hexadecimal",
+            Refusal::LineLength => "book: line is not as long as it says",
+            Refusal::LongLine => "book: line is too long",
             Refusal::FiguresFull => "figures: 4,096 accepted blocks are there",
             Refusal::NotPlain => "plain functions: an option or a statistic outside plain",
         }

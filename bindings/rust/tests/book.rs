@@ -1,5 +1,5 @@
 //! The sample book, and books that are cut anywhere.
-use bulmegart::book::{bulmegart_book_end, bulmegart_book_feed, RawBookAnswer, ANSWER, HELD, NUMBERS};
+use bulmegart::book::{bulmegart_book_finish, bulmegart_book_feed, RawBookAnswer, ANSWER, HELD, NUMBERS};
 use bulmegart::Book;
 
 const SAMPLE: &[u8] = include_bytes!("../../../crates/book/stdin");
@@ -10,7 +10,7 @@ fn answered(book: &[u8], cut: usize) -> (String, [u64; NUMBERS]) {
     for piece in book.chunks(cut) {
         reading.feed(piece, &mut answers);
     }
-    let tally = reading.end(&mut answers);
+    let tally = reading.finish(&mut answers);
     (String::from_utf8(answers).unwrap(), tally)
 }
 
@@ -86,6 +86,6 @@ fn what_a_call_refuses_it_leaves() {
     assert_eq!(call(5, HELD, 1, 0), 12);
     assert_eq!(call(4, HELD, u64::MAX - 4, 0), 0);
     // Sound: as above.
-    let given = unsafe { bulmegart_book_end(buffer.as_ptr(), HELD, 1, 1, tally.as_mut_ptr(), tally.len(), room.as_mut_ptr(), ANSWER - 1) };
+    let given = unsafe { bulmegart_book_finish(buffer.as_ptr(), HELD, 1, 1, tally.as_mut_ptr(), tally.len(), room.as_mut_ptr(), ANSWER - 1) };
     assert_eq!(given.number, 12);
 }

@@ -1,5 +1,5 @@
 //! Drawings through the press, and their frames through the book.
-use bulmegart::{press, Book, CONTEXTS};
+use bulmegart::{press, Book, Refusal, CONTEXTS};
 
 fn answered(frames: &[Vec<u8>]) -> String {
     let (mut book, mut answers) = (Book::new(), Vec::new());
@@ -36,7 +36,7 @@ fn hairlines() {
 #[test]
 fn levels_at_the_ends_of_the_range_and_beyond() {
     let mut levels = [0; 16];
-    for (level, given) in [(32_767, Ok(())), (-32_768, Ok(())), (32_768, Err(8)), (-32_769, Err(8)), (0, Err(9))] {
+    for (level, given) in [(32_767, Ok(())), (-32_768, Ok(())), (32_768, Err(Refusal::LevelOutOfRange)), (-32_769, Err(Refusal::LevelOutOfRange)), (0, Err(Refusal::AllZero))] {
         levels[3] = level;
         let pressed = press(&[2, 1, 0, 8, 26, 0], &[154; CONTEXTS], &levels);
         assert_eq!(pressed.clone().map(|_| ()), given);
@@ -55,17 +55,17 @@ fn hidden_signs_met_and_missed() {
         press(&[2, 1, 0, 8, 26, 1], &[154; CONTEXTS], &levels).map(|frame| answered(&[frame]))
     };
     assert_eq!(drawing(4), Ok("1 ok 3 0\n".into()));
-    assert_eq!(drawing(5), Err(11));
+    assert_eq!(drawing(5), Err(Refusal::HiddenSign));
 }
 
 #[test]
 fn what_is_refused_by_4() {
     let levels = [1; 16];
     for head in [[1, 1, 0, 8, 26, 0], [6, 1, 0, 8, 26, 0], [2, 2, 0, 8, 26, 0], [2, 1, 3, 8, 26, 0], [2, 1, 0, 7, 26, 0], [2, 1, 0, 8, 26, 2]] {
-        assert_eq!(press(&head, &[154; CONTEXTS], &levels), Err(4), "{head:?}");
+        assert_eq!(press(&head, &[154; CONTEXTS], &levels), Err(Refusal::BadParameter), "{head:?}");
     }
-    assert_eq!(press(&[2, 1, 0, 8, 26, 0], &[154; CONTEXTS - 1], &levels), Err(4));
-    assert_eq!(press(&[2, 1, 0, 8, 26, 0], &[154; CONTEXTS], &levels[..15]), Err(4));
+    assert_eq!(press(&[2, 1, 0, 8, 26, 0], &[154; CONTEXTS - 1], &levels), Err(Refusal::BadParameter));
+    assert_eq!(press(&[2, 1, 0, 8, 26, 0], &[154; CONTEXTS], &levels[..15]), Err(Refusal::BadParameter));
 }
 
 /// The largest levels throughout, at the initial value where they take the most bytes: what does not fit a line is 22.
@@ -74,6 +74,6 @@ fn a_full_block() {
     let levels = vec![-32_768; 1024];
     match press(&[5, 1, 0, 8, 26, 0], &[154; CONTEXTS], &levels) {
         Ok(frame) => assert_eq!(answered(&[frame]), "1 ok 32768 0\n"),
-        Err(number) => assert_eq!(number, 22),
+        Err(refusal) => assert_eq!(refusal, Refusal::LongLine),
     }
 }

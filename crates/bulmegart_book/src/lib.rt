@@ -76,7 +76,7 @@ pub extern "C" fn bulmegart_book_feed(
 
 // The end of a book: the answer to what stands behind its last line feed.
 #[no_mangle]
-pub extern "C" fn bulmegart_book_end(
+pub extern "C" fn bulmegart_book_finish(
     buffer: &[u8],
     line: u64,
     held: usize,

@@ -1,9 +1,9 @@
--- `bulmegart_book_end` meets its contract. Assumes nothing.
+-- `bulmegart_book_finish` meets its contract. Assumes nothing.
 use native.Mathlib.Omega.{arith}
 use borrow.Author.Needs.{needs}
 use Rattle.bulmegart_book.specs.ExportedLaws.{taken-by, ended-taken, ended-refused}
-use Rattle.bulmegart_book.proofs.bulmegart_book_end.Statement.{statement}
-use Rattle.bulmegart_book.proofs.bulmegart_book_end.Tie as tie
+use Rattle.bulmegart_book.proofs.bulmegart_book_finish.Statement.{statement}
+use Rattle.bulmegart_book.proofs.bulmegart_book_finish.Tie as tie
 
 handed-refusal-requires : tie.Need-handed-refusal-requires
 handed-refusal-requires c κs = search needs
@@ -37,5 +37,5 @@ returns-2 c =
     let x = at-finish .finish .ensures in
     ended-taken (a .buffer .now) (a .line) (a .held) (a .tally .now) (a .room .now) _ _ _ _ _ (at-handed-refusal .handed-refusal .ensures) (at-if1 .if1 .left) (x .0) (c .answer-of .ensures)
 
-pub bulmegart-book-end-spec : {M : Type 1} → statement M
-bulmegart-book-end-spec = tie.close (tie.spec handed-refusal-requires returns finish-requires answer-of-requires same-length same-length-2 returns-2)
+pub bulmegart-book-finish-spec : {M : Type 1} → statement M
+bulmegart-book-finish-spec = tie.close (tie.spec handed-refusal-requires returns finish-requires answer-of-requires same-length same-length-2 returns-2)
