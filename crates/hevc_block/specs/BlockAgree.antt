@@ -37,7 +37,7 @@ headedRefusal (headed.Got h y) = refusedAt 0 y
 headedRefusal (headed.Refused n) = n
 
 abbrev pub carriedRefusal : Carried → Refusal
-carriedRefusal (carried.Got c y) = refusedAt 0 y
+carriedRefusal (carried.Got c k y) = refusedAt 0 y
 carriedRefusal (carried.Refused n) = n
 
 abbrev pub foundAt : Head → ℕ → ℕ → ℕ → Found

@@ -4,7 +4,7 @@ use mathlib.Core.Path.{_≡_, sym, ap, ap₂, subst, _∙_}
 use mathlib.Core.Bool.{Bool, false}
 use mathlib.Core.List.{List}
 use lib.IntN.{ℤ, pos}
-use lib.ListN.{length, replicate, length-replicate}
+use lib.ListN.{length, replicate}
 use Rattle.bins.specs.declared.state.Refusal.{Refusal}
 use Rattle.bins.specs.declared.state.Interval.{Interval}
 use Rattle.bins.specs.Syn.{done, _>>=_, Out}
@@ -27,12 +27,13 @@ use Rattle.hevc_bounds.specs.ResidualBounds.{last-few, last-in-few}
 use Rattle.hevc_elements.specs.Agree.{Reads, from, reads-on}
 use Rattle.hevc_elements.specs.ShapeLaws.{run-done}
 use Rattle.hevc_rules.specs.declared.coeffs.Carry.{Carry}
+use Rattle.hevc_levels.specs.declared.levels.Stored.{Stored}
 use Rattle.hevc_subblock.specs.declared.coeffs.Carried.{Carried}
 use Rattle.hevc_subblock.specs.declared.coeffs.Carried.the-variants as carried
 use Rattle.hevc_rules.specs.CoeffsAgree.{accOf}
 use Rattle.hevc_block.specs.declared.block.Found.{Found}
 use Rattle.hevc_rules.specs.SubsAgree.{Last, begun, lastOf, lastInOf}
-use Rattle.hevc_block.specs.SubsAgree.{SaysSubs}
+use Rattle.hevc_sub_blocks.specs.SubsAgree.{SaysSubs}
 use Rattle.hevc_extents.specs.ExtentLaws.{column-gathered}
 use Rattle.hevc_block.specs.BlockAgree.{blockOf, headedRefusal, carriedRefusal}
 
@@ -95,10 +96,10 @@ module _ (p : Params) (a : Accepted p) (list : Bool) (l : List ℕ) (x : Interva
           let b = bind-no (byCode list l) subs finish (cursor y ds) n f in
           (b .0, body-left ∙ b .1)
 
-      pub subs-got : Statistics stats → (c : Carry) (z : Interval) → s ≡ carried.Got c z → (f : Found) (n g : ℕ) → n ≡ rowExtentOf p levels′ → g ≡ greatestOf levels′
+      pub subs-got : Statistics stats → (c : Carry) (kept : Stored) (z : Interval) → s ≡ carried.Got c kept z → (f : Found) (n g : ℕ) → n ≡ rowExtentOf p levels′ → g ≡ greatestOf levels′
           → f ≡ record { skip = h .skip; rdpcm = h .rdpcm; column = c .column; row = n; greatest = g }
           → from list l (residual p stats) x cs ≡ Out.ok (blockOf f levels′ stats′) (cursor z es)
-      subs-got st c z u f n g r w v =
+      subs-got st c kept z u f n g r w v =
           let o = subst (λ (t : Carried). SaysSubs p h list l y ds coded₀ levels₀ stats t es coded′ levels′ stats′) u here in
           let columns : c .column ≡ columnExtentOf p levels′ =
           column-gathered p a (byCode list l) (headOf h) (lastOf p h) (lastInOf p h) (last-few p a (h .x) (h .y) (head-last .column) (head-last .row))
@@ -117,6 +118,3 @@ headed-number r m n q e = q ∙ ap headed.Refused (sym (e ∙ ap headedRefusal q
 
 pub carried-number : (r : Carried) (m n : Refusal) → r ≡ carried.Refused m → n ≡ carriedRefusal r → r ≡ carried.Refused n
 carried-number r m n q e = q ∙ ap carried.Refused (sym (e ∙ ap carriedRefusal q))
-
-pub zeros-long : (p : Params) (l : List ℤ) → l ≡ replicate (area p) (pos 0) → length l ≡ area p
-zeros-long p l q = ap (λ (l : List ℤ). length l) q ∙ length-replicate (area p) (pos 0)

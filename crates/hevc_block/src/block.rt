@@ -1,16 +1,15 @@
 // The whole block.
-use crate::subs::sub_blocks;
 use bins::state::Interval;
 use bins::state::Refusal;
 use bins::tags::CONTEXTS;
-use hevc_extents::greatest_within;
-use hevc_extents::lowest_row;
 use hevc_head::head::Head;
 use hevc_head::head::Headed;
 use hevc_head::head::read_head;
+use hevc_levels::levels::Stored;
 use hevc_residual::params::Params;
 use hevc_residual::params::Rdpcm;
 use hevc_rules::sizes::grid;
+use hevc_sub_blocks::subs::sub_blocks;
 use hevc_subblock::coeffs::Carried;
 use tree_shapes::levels::greatest;
 ghost use mathlib.Core.Path.{_≡_};
@@ -23,6 +22,7 @@ ghost use Rattle.hevc_elements.specs.Agree.{Reads};
 ghost use Rattle.hevc_residual.specs.Limits.{Accepted, Statistics};
 ghost use Rattle.hevc_residual.specs.Residual.{greatestOf};
 ghost use Rattle.hevc_residual.specs.Extent.{rowExtentOf};
+ghost use Rattle.hevc_levels.specs.StoredAgree.{Keeps};
 ghost use Rattle.hevc_block.specs.BlockAgree.{headedRefusal, carriedRefusal, foundAt, SaysBlock};
 
 // What document 01 gives of a block, beside its levels.
@@ -53,7 +53,7 @@ fn carried_refusal(c: Carried) -> Refusal
     ensures { λ r. ⌜ r ≡ carriedRefusal c ⌝ }
 {
     match c {
-        Carried::Got(_, y) => Refusal { number: 0, at: y },
+        Carried::Got(_, _, y) => Refusal { number: 0, at: y },
         Carried::Refused(r) => r,
     }
 }
@@ -77,22 +77,21 @@ struct Told {
     greatest: u32,
 }
 
-// At 4x4 they are asked for apart: where LLVM knows the size, it leaves no loop.
-fn told_of(block: &[i32], p: Params) -> Told
-    requires { ⌜ Accepted p × (length (now block) ≡ area p) ⌝ }
+// They were gathered as the levels were stored; only if a place was written twice is the greatest one looked for.
+fn told_of(block: &[i32], p: Params, k: Stored) -> Told
+    requires { ⌜ Accepted p × (length (now block) ≡ area p) × Keeps p k (now block) ⌝ }
     ensures { λ r. ⌜ (r .row ≡ rowExtentOf p (now (block .entry))) × (r .greatest ≡ greatestOf (now (block .entry))) ⌝ }
 {
-    if p.log2 == 2 {
-        let row = lowest_row(block, p);
+    let row = k.far >> p.log2;
+    if k.clean {
         return Told {
             row,
-            greatest: greatest(block),
+            greatest: k.greatest,
         };
     }
-    let row = lowest_row(block, p);
     Told {
         row,
-        greatest: greatest_within(block, p, row),
+        greatest: greatest(block),
     }
 }
 
@@ -128,10 +127,10 @@ pub fn read_block(
         h,
         x1,
     );
-    let Carried::Got(c, x2) = s else {
+    let Carried::Got(c, k, x2) = s else {
         return Blocked::Refused(carried_refusal(s));
     };
-    let told = told_of(block, p);
+    let told = told_of(block, p, k);
     let row = told.row;
     Blocked::Got(found_of(h, c.column, row, told.greatest), x2)
 }

@@ -6,15 +6,16 @@ use mathlib.Core.List.{List, [], _∷_}
 use native.Mathlib.Omega.{arith}
 use lib.IntN.{ℤ, pos, natAbs}
 use lib.ListN.{length, getD, replicate}
-use borrow.Author.Tests.{not-false, leb-true, ltb-true}
 use Rattle.bins.specs.Syn.{done, _>>=_}
+use Rattle.trees.specs.LevelLaws.{near-all}
+use Rattle.trees.specs.ReaderLaws.{or-false}
 use Rattle.hevc_residual.specs.declared.params.Params.{Params}
 use Rattle.hevc_residual.specs.declared.params.Rdpcm.{Rdpcm}
-use Rattle.hevc_residual.specs.Wanted.{Wanted, S, area, outerOf, innerOf, negative}
+use Rattle.hevc_residual.specs.Wanted.{Wanted, S, area, outerOf, innerOf}
 use Rattle.hevc_residual.specs.Head as syntax
 use Rattle.hevc_residual.specs.Head.{headS, skipCoded, rdpcmCoded, rdpcmFlag}
-use Rattle.hevc_residual.specs.Remainder.{log2TransformRange, inRange}
-use Rattle.hevc_residual.specs.Refusal.{notCoded, tooFar, writeRefusal}
+use Rattle.hevc_residual.specs.Remainder.{log2TransformRange}
+use Rattle.hevc_residual.specs.Refusal.{notCoded, writeRefusal}
 use Rattle.hevc_residual.specs.SubBlock.{Acc}
 use Rattle.hevc_residual.specs.Residual.{Block, subBlocksS, bodyS, residual, greatestOf}
 use Rattle.hevc_residual.specs.Extent.{columnExtentOf, rowExtentOf}
@@ -25,29 +26,13 @@ use Rattle.pen.specs.Sheet.{Sheet, Wrote}
 use Rattle.pen.specs.SheetLaws.{wrote-then, wrote-call}
 use Rattle.hevc_pen.specs.HeadLaws.{Codable}
 use Rattle.hevc_wanted.specs.WritableLaws.{writable}
-use Rattle.hevc_block_pen.specs.LevelsPuts.{AllInRange}
+use Rattle.hevc_levels_pen.specs.LevelsPuts.{AllInRange}
 use Rattle.hevc_block_pen.specs.SubsPuts.{accAt, GoesSubs}
 
 abbrev pub wantedOf : Bool → Rdpcm → List ℤ → Wanted
 wantedOf skip rdpcm levels = record { skip = skip; rdpcm = rdpcm; levels = levels }
 
 -- ---- of a block of which nothing is refused, every level is in range, and what is set is coded
-or-none : (a b : Bool) → (a || b) ≡ false → (a ≡ false) × (b ≡ false)
-or-none false b q = (refl, q)
-or-none true b q = let z : _≡_ {A = ℕ} 0 1 = cc in absurd (omega arith)
-
-range-far : (t : ℕ) (neg : Bool) (m : ℕ) → inRange t neg m ≡ true → m ≤ 2 ^ t
-range-far t true m q = leb-true m (2 ^ t) q
-range-far t false m q = omega (arith, ltb-true m (2 ^ t) q)
-
-near-all : (t : ℕ) (l : List ℤ) → tooFar t l ≡ false → (i : ℕ) → natAbs (getD l i (pos 0)) ≤ 2 ^ t
-unfolding tooFar
-near-all t [] q i = omega arith
-near-all t (v ∷ l) q zero =
-    let o = or-none (not (inRange t (negative v) (natAbs v))) (tooFar t l) q in
-    range-far t (negative v) (natAbs v) (not-false (inRange t (negative v) (natAbs v)) (o .0))
-near-all t (v ∷ l) q (suc i) = near-all t l (or-none (not (inRange t (negative v) (natAbs v))) (tooFar t l) q .1) i
-
 pub all-in-range : (p : Params) (skip : Bool) (rdpcm : Rdpcm) (levels : List ℤ) → writeRefusal p (wantedOf skip rdpcm levels) ≡ 0 → AllInRange p levels
 all-in-range p skip rdpcm levels q = near-all (log2TransformRange p) levels (writable p (wantedOf skip rdpcm levels) q .near)
 
@@ -60,7 +45,7 @@ coded-so false false q = refl
 pub codable : (p : Params) (skip : Bool) (rdpcm : Rdpcm) (levels : List ℤ) → writeRefusal p (wantedOf skip rdpcm levels) ≡ 0 → Codable p skip rdpcm
 unfolding notCoded
 codable p skip rdpcm levels q =
-    let o = or-none (skip && not (skipCoded p)) (rdpcmFlag rdpcm && not (rdpcmCoded p skip)) (writable p (wantedOf skip rdpcm levels) q .coded) in
+    let o = or-false (skip && not (skipCoded p)) (rdpcmFlag rdpcm && not (rdpcmCoded p skip)) (writable p (wantedOf skip rdpcm levels) q .coded) in
     record { ofSkip = coded-so skip (skipCoded p) (o .0); ofRdpcm = coded-so (rdpcmFlag rdpcm) (rdpcmCoded p skip) (o .1) }
 
 -- ---- the block is written to its end, with these statistics behind it

@@ -24,7 +24,9 @@ use Rattle.hevc_rules.specs.declared.places.Places.{Places}
 use Rattle.hevc_rules.specs.declared.coeffs.Carry.{Carry}
 use Rattle.hevc_rules.specs.Packing.{Packs, unpack, unpacked}
 use Rattle.hevc_rules.specs.PackingLaws.{unpack-none}
-use Rattle.hevc_rules.specs.PlacesAgree.{sigNumber}
+use Rattle.hevc_rules.specs.declared.places.SigNumbers.{SigNumbers}
+use Rattle.hevc_rules.specs.PlacesAgree.{sigNumber, numberAt}
+use Rattle.hevc_rules.specs.PlacesLaws.{places-same}
 use Rattle.hevc_rules.specs.CoeffsAgree.{Carries, accOf, coeffsOf}
 use Rattle.hevc_residual.specs.Limits.{Statistics}
 use Rattle.hevc_rules.specs.SubsAgree.{near, flagNumber, flagOr, Met, begun, lastOf, lastInOf}
@@ -35,8 +37,8 @@ use Rattle.pen.specs.Sheet.{Sheet, entered, Wrote}
 use Rattle.pen.specs.SheetLaws.{wrote-none, wrote-on, wrote-bin, wrote-call}
 use Rattle.hevc_wanted.specs.Shown.{Shows, isLevel}
 use Rattle.hevc_wanted.specs.ShownLaws.{places-shown}
-use Rattle.hevc_block_pen.specs.LevelsPuts.{AllInRange, InRange}
-use Rattle.hevc_block_pen.specs.CoeffsPuts.{AccIs, Lands, GoesCoeffs}
+use Rattle.hevc_levels_pen.specs.LevelsPuts.{AllInRange, InRange}
+use Rattle.hevc_levels_pen.specs.CoeffsPuts.{AccIs, Lands, GoesCoeffs}
 
 -- ---- the accumulator: what the code has, with any block and column
 abbrev pub accAt : Carry → ℕ → List Bool → List ℤ → List ℕ → Acc
@@ -115,10 +117,11 @@ module _ (p : Params) (h : Head) (last lastin i xs ys : ℕ) (q : getD (outerOf 
   codedNow = set coded (ys * wid + xs) true
 
   module _ (e : flag ≡ true) (single : Bool) (es : single ≡ (p .«skip_context» && skipOrBypass p (h .skip))) (below : ℕ)
-      (eb : below ≡ cond (eqb i last) lastin 16) (met : Places) (em′ : Met i last lastin met) (s : Places) (s₂ : Sheet)
+      (eb : below ≡ cond (eqb i last) lastin 16) (met : Places) (em′ : Met i last lastin met) (numbers : SigNumbers)
+      (eh : (k : ℕ) → k < below → numberAt numbers k ≡ sigNumber p single beside xs ys k) (s : Places) (s₂ : Sheet)
       (levels : List ℤ) (shown : (w : Wanted) → w .levels ≡ block → Shows (wantedIn p (innerOf p) (spot xs ys)) w levels)
       (P : (lv : ℕ → Wanted → ℤ) (w : Wanted) → Shows lv w levels
-      → Wrote (placesS lv (sigNumber p single beside xs ys) mid below (unpacked met)) (done (unpacked s)) w s₁ s₂) where
+      → Wrote (placesS lv (numberAt numbers) mid below (unpacked met)) (done (unpacked s)) w s₁ s₂) where
     at-places : (w : Wanted) → w .levels ≡ block → (filled : List ℤ) (column : ℕ)
         → Wrote (subBlockS p (headOf h) (outerOf p) (innerOf p) last lastin i (accAt c column coded filled stats))
         (filledS p (headOf h) (outerOf p) (innerOf p) i (spot xs ys) (accAt c column codedNow filled stats) (unpacked s)) w s₀ s₂
@@ -129,8 +132,9 @@ module _ (p : Params) (h : Head) (last lastin i xs ys : ℕ) (q : getD (outerOf 
         let t = placesT p h last lastin i xs ys q ctx in
         let f : List ℕ → S Acc = λ ks. filledS p (headOf h) (outerOf p) (innerOf p) i (spot xs ys) (accAt c column (set coded (ys * width p + xs) true) filled stats) ks in
         let a : sigNumber p single beside xs ys ≡ ctx = ap₂ (λ (z : Bool) n. sigNumber p z n xs ys) es near-is in
-        let o : placesS (wantedIn p (innerOf p) (spot xs ys)) (sigNumber p single beside xs ys) mid below (unpacked met) ≡ t =
-        places-is p h last lastin i xs ys q mid below (unpacked met) (sigNumber p single beside xs ys) em eb (em′ .places)
+        let o : placesS (wantedIn p (innerOf p) (spot xs ys)) (numberAt numbers) mid below (unpacked met) ≡ t =
+        places-same (wantedIn p (innerOf p) (spot xs ys)) (numberAt numbers) (sigNumber p single beside xs ys) mid below (unpacked met) eh
+        ∙ places-is p h last lastin i xs ys q mid below (unpacked met) (sigNumber p single beside xs ys) em eb (em′ .places)
         ∙ ap (λ (ctx : ℕ → ℕ). placesT p h last lastin i xs ys q ctx) a in
         let y : Wrote t (done (unpacked s)) w s₁ s₂ =
         subst (λ z. Wrote z (done (unpacked s)) w s₁ s₂) o (P (wantedIn p (innerOf p) (spot xs ys)) w (shown w ewl)) in

@@ -1,9 +1,10 @@
 // Sub-blocks from the last one down.
-use crate::coeffs::put_coeffs;
 use crate::places::put_places;
 use hevc_head::head::Head;
+use hevc_levels_pen::coeffs::put_coeffs;
 use hevc_residual::params::Params;
 use hevc_rules::coeffs::Carry;
+use hevc_rules::places::sig_numbers;
 use hevc_rules::sizes::width_of;
 use hevc_rules::subs::ctxset_of;
 use hevc_rules::subs::flag_number;
@@ -13,7 +14,6 @@ use hevc_rules::subs::met;
 use hevc_rules::subs::neighbours_of;
 use hevc_rules::subs::places_below;
 use hevc_scans::numbers::number_in;
-use hevc_scans::significance::map4;
 use hevc_wanted::sub::is_bare;
 use hevc_wanted::sub::levels_of;
 use pen::room::Pen;
@@ -27,12 +27,12 @@ ghost use Rattle.bins.specs.Tags.{contextCount};
 ghost use Rattle.hevc_residual.specs.Wanted.{Wanted, area, width, outerOf, innerOf};
 ghost use Rattle.hevc_residual.specs.Scan.{spot};
 ghost use Rattle.hevc_residual.specs.Limits.{Statistics};
-ghost use Rattle.hevc_scans.specs.Pairs.{pairsOf, mapRows, Orders};
+ghost use Rattle.hevc_scans.specs.Pairs.{pairsOf, Orders};
 ghost use Rattle.hevc_rules.specs.LevelsAgree.{Site};
 ghost use Rattle.hevc_rules.specs.CoeffsAgree.{Carries};
 ghost use Rattle.hevc_rules.specs.SubsAgree.{flagOr, Last};
 ghost use Rattle.pen.specs.Sheet.{sheet, Wrote};
-ghost use Rattle.hevc_block_pen.specs.LevelsPuts.{AllInRange};
+ghost use Rattle.hevc_levels_pen.specs.LevelsPuts.{AllInRange};
 ghost use Rattle.hevc_block_pen.specs.SubsPuts.{GoesSub, GoesSubs};
 
 // coded_sub_block_flag, coded strictly between first and last.
@@ -59,14 +59,13 @@ pub struct PutSub {
     pub pen: Pen,
 }
 
-// Sub-block number i of those up to number last, in which the last significant place is lastin. order is the scan of its places, map the contexts of
-// 4x4, coded which sub-blocks were coded by now, w how many stand in a row, (xs, ys) where this one does, c what the one before it left.
+// Sub-block number i of those up to number last, in which the last significant place is lastin. order is the scan of its places, coded which
+// sub-blocks were coded by now, w how many stand in a row, (xs, ys) where this one does, c what the one before it left.
 pub fn put_sub_block(
     room: &mut [u8],
     pen: Pen,
     block: &[i32],
     order: &[[u8; 2]; 16],
-    map: &[[u8; 4]; 4],
     coded: &mut [bool],
     stats: &mut [u8; 4],
     p: Params,
@@ -79,7 +78,7 @@ pub fn put_sub_block(
     ys: u32,
     c: Carry,
 ) -> PutSub
-    requires { ⌜ (now order ≡ pairsOf (innerOf p)) × (now map ≡ mapRows) × Site p xs ys × (length (now coded) ≡ width p * width p) × (length (now block) ≡ area p) × AllInRange p (now block) × Statistics (now stats) × Carries c × (getD (outerOf p) i (spot 0 0) ≡ spot xs ys) × (lastin ≤ 15) × (i ≤ last) × (p .log2 ≡ 2 → i ≡ last) × (w ≡ width p) ⌝ }
+    requires { ⌜ (now order ≡ pairsOf (innerOf p)) × (w ≡ width p) × Site p xs ys × (length (now coded) ≡ width p * width p) × (length (now block) ≡ area p) × AllInRange p (now block) × Statistics (now stats) × Carries c × (getD (outerOf p) i (spot 0 0) ≡ spot xs ys) × (lastin ≤ 15) × (i ≤ last) × (p .log2 ≡ 2 → i ≡ last) ⌝ }
     ensures { λ r. ⌜ (length (now (coded .exit)) ≡ width p * width p) × Statistics (now (stats .exit)) × Carries (r .carry) × GoesSub p h last lastin i (now (block .entry)) (now (coded .entry)) c (now (stats .entry)) (now (coded .exit)) (r .carry) (now (stats .exit)) (sheet (now (room .entry)) pen) (sheet (now (room .exit)) (r .pen)) ⌝ }
 {
     let neighbours = neighbours_of(coded, w, xs, ys);
@@ -96,13 +95,7 @@ pub fn put_sub_block(
         room,
         y,
         &levels,
-        order,
-        map,
-        p,
-        is_single(p, h.skip),
-        neighbours,
-        xs,
-        ys,
+        sig_numbers(p, is_single(p, h.skip), neighbours, xs, ys),
         middle,
         places_below(i, last, lastin),
         met(i, last, lastin),
@@ -139,7 +132,6 @@ pub fn put_sub_blocks(
     requires { ⌜ (now order ≡ pairsOf (innerOf p)) × Orders (4 ^ (p .log2 - 2)) (outerOf p) (now outer) × Last p h × (length (now coded) ≡ width p * width p) × (length (now block) ≡ area p) × AllInRange p (now block) × Statistics (now stats) ⌝ }
     ensures { λ r. ⌜ Statistics (now (stats .exit)) × GoesSubs p h (now (block .entry)) (now (coded .entry)) (now (stats .entry)) (now (stats .exit)) (sheet (now (room .entry)) pen) (sheet (now (room .exit)) r) ⌝ }
 {
-    let map = map4();
     let w = width_of(p.log2);
     let last = number_in(p.log2 - 2, p.scan, h.x / 4, h.y / 4);
     let lastin = number_in(2, p.scan, h.x % 4, h.y % 4);
@@ -159,7 +151,6 @@ pub fn put_sub_blocks(
             y,
             block,
             order,
-            &map,
             coded,
             stats,
             p,

@@ -19,27 +19,13 @@ use Rattle.hevc_residual.specs.Extent.{Extents}
 use Rattle.hevc_residual.specs.Residual.{residual}
 use Rattle.hevc_residual.specs.Numbers.{withinLimits, parameterRefusal, statisticRefusal, statisticsRefusal}
 use Rattle.hevc_residual.specs.Entries.{Found, readFromList, readBinsBy, readBins}
+use Rattle.hevc_residual.specs.AllOff.{allOff}
 use Rattle.hevc_extents.specs.EntryExtents.{list-extents}
 
 -- 4x4 luma, scan 0, all options off
 abbrev plain : Params
 plain =
-    record {
-      log2 = 2;
-      luma = true;
-      scan = 0;
-      depth = 8;
-      hiding = false;
-      «skip_allowed» = false;
-      lossless = false;
-      persistent = false;
-      «skip_context» = false;
-      «explicit_rdpcm» = false;
-      «implicit_rdpcm» = false;
-      inter = false;
-      aligning = false;
-      extended = false;
-    }
+    allOff 2 true 0 8 false
 
 abbrev bins : List ℕ
 bins = 1 ∷ 0 ∷ 2 ∷ 0 ∷ 36 ∷ 0 ∷ 77 ∷ 0 ∷ 72 ∷ 0 ∷ 170 ∷ 0 ∷ 172 ∷ 0 ∷ 4 ∷ 1 ∷ 4 ∷ 1 ∷ []

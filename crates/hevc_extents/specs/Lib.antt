@@ -1,4 +1,3 @@
-pub mod RowLaws
 pub mod ExtentLaws
 pub mod EntryExtents
 pub mod Instance

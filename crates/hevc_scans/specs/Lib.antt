@@ -4,4 +4,5 @@ pub mod CellLaws
 pub mod PairLaws
 pub mod Numbers
 pub mod NumberLaws
+pub mod SigWords
 pub mod SigLaws

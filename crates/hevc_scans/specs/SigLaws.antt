@@ -1,17 +1,18 @@
 -- The contexts of sig_coeff_flag, as the code works them out. Assumes nothing.
-use Prim.Native.Nat.{ℕ, _+_, _*_, _≤_, _<_, _/_, _%_, _^_}
+use Prim.Native.Nat.{ℕ, zero, suc, _+_, _*_, _≤_, _<_, _/_, _%_, _^_}
 use mathlib.Core.Path.{_≡_, refl}
 use mathlib.Core.Bool.{Bool, true, false, cond}
 use mathlib.Core.List.{List, []}
 use native.Mathlib.Omega.{arith}
-use lib.Dec.{eqb, ltb, leb}
+use lib.Dec.{T, eqb, ltb, leb}
 use lib.ListN.{getD}
 use borrow.Author.Tests.{lt-ltb, le-ltb, eq-eqb, ne-eqb, eqb-true}
 use Rattle.bins.specs.Readers.{odd}
 use Rattle.hevc_residual.specs.Layout.{inChroma}
 use Rattle.hevc_residual.specs.Scan.{falling, byNeighbours, chromaPlus, lumaPlus, ctxIdxMap, sigCtx}
-use Rattle.tables.specs.Table.{eq-below, le-below}
+use Rattle.tables.specs.Table.{allFrom, eq-below, le-below}
 use Rattle.hevc_scans.specs.Pairs.{mapRows}
+use Rattle.hevc_scans.specs.SigWords.{fourAt, mapAt, nearAt}
 
 -- what luma adds by size and scan
 abbrev pub lumaOf : ℕ → ℕ → ℕ
@@ -20,6 +21,22 @@ lumaOf log2 scan = cond (eqb log2 3) (cond (eqb scan 0) 9 15) 21
 -- what is added to byNeighbours
 abbrev pub plusOf : ℕ → Bool → ℕ → Bool → ℕ
 plusOf log2 luma scan outside = inChroma luma 27 + cond luma (cond outside 3 0 + lumaOf log2 scan) (chromaPlus log2)
+
+-- ---- the words, each by one test that is computed: four bits a place hold what is asked for there
+pub map-word : (w s scan : ℕ) → scan ≡ s → T (allFrom (λ k. eqb (fourAt w k) (mapAt s k)) 0 15) → (k : ℕ) → k < 15 → fourAt w k ≡ mapAt scan k
+map-word w s scan p t = rw p (eq-below (fourAt w) (mapAt s) 15 t)
+
+pub near-word : (w m s n scan : ℕ) → n ≡ m → scan ≡ s → T (allFrom (λ k. eqb (fourAt w k) (nearAt m s k)) 0 16)
+    → (k : ℕ) → k < 16 → fourAt w k ≡ nearAt n scan k
+near-word w m s n scan p q t = rw (p, q) (eq-below (fourAt w) (nearAt m s) 16 t)
+
+-- one word for rows and columns
+pub near-sides : (w m n scan : ℕ) → n ≡ m → (scan ≡ 0 → ⊥) → scan ≤ 2 → T (allFrom (λ k. eqb (fourAt w k) (nearAt m 1 k)) 0 16)
+    → T (allFrom (λ k. eqb (fourAt w k) (nearAt m 2 k)) 0 16) → (k : ℕ) → k < 16 → fourAt w k ≡ nearAt n scan k
+near-sides w m n zero p z h t u = absurd (z refl)
+near-sides w m n (suc zero) p z h t u = near-word w m 1 n 1 p refl t
+near-sides w m n (suc (suc zero)) p z h t u = near-word w m 2 n 2 p refl u
+near-sides w m n (suc (suc (suc s))) p z h t u = absurd (omega arith)
 
 -- ---- the match on the neighbours
 module _ (n x y : ℕ) where
@@ -122,6 +139,14 @@ module _ (log2 scan xs ys x y : ℕ) (luma right below : Bool) (hx : x ≤ 3) (h
       let px : 4 * xs + x ≡ x = omega arith in
       let py : 4 * ys + y ≡ y = omega arith in
       rw (e, map-rows y hy x hx, p, px, py)
+
+  pub sig-four : log2 ≡ 2 → (xs ≡ 0) × (ys ≡ 0)
+      → inChroma luma 27 + getD ctxIdxMap (y * 4 + x) 0 ≡ sigCtx log2 luma scan right below (4 * xs + x) (4 * ys + y)
+  unfolding sigCtx
+  sig-four p z =
+      let px : 4 * xs + x ≡ x = omega arith in
+      let py : 4 * ys + y ≡ y = omega arith in
+      rw (p, px, py)
 
   pub sig-zero : (log2 ≡ 2 → ⊥) → xs + ys + x + y ≡ 0 → inChroma luma 27 + 0 ≡ sigCtx log2 luma scan right below (4 * xs + x) (4 * ys + y)
   unfolding sigCtx

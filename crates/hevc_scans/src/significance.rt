@@ -1,10 +1,11 @@
-// The contexts of sig_coeff_flag (H.265 9.3.4.2.5), as a nested constant array and small choices.
+// The contexts of sig_coeff_flag (H.265 9.3.4.2.5), as a nested constant array and small choices; and the same of a whole sub-block in one number.
 ghost use mathlib.Core.Path.{_≡_};
-ghost use Prim.Native.Nat.{_+_, _*_, _≤_};
+ghost use Prim.Native.Nat.{ℕ, _+_, _*_, _≤_, _<_};
 ghost use lib.Dec.{leb};
 ghost use Rattle.bins.specs.Readers.{odd};
 ghost use Rattle.hevc_residual.specs.Scan.{byNeighbours, sigCtx};
 ghost use Rattle.hevc_scans.specs.Pairs.{mapRows};
+ghost use Rattle.hevc_scans.specs.SigWords.{fourAt, mapAt, nearAt};
 ghost use Rattle.hevc_scans.specs.SigLaws.{lumaOf, plusOf};
 
 const MAP4: [[u8; 4]; 4] = [[0, 1, 4, 5], [2, 3, 4, 5], [6, 6, 8, 8], [7, 7, 8, 99]];
@@ -55,7 +56,7 @@ fn luma_plus(log2: u32, scan: u32) -> u32
 }
 
 // What is added by component, size, scan and whether the sub-block lies outside the first.
-fn plus(log2: u32, luma: bool, scan: u32, outside: bool) -> u32
+pub fn plus(log2: u32, luma: bool, scan: u32, outside: bool) -> u32
     ensures { λ r. ⌜ r ≡ plusOf log2 luma scan outside ⌝ }
 {
     if luma {
@@ -68,7 +69,7 @@ fn plus(log2: u32, luma: bool, scan: u32, outside: bool) -> u32
     if log2 == 3 { 36 } else { 39 }
 }
 
-// sigCtx at place (x, y) of sub-block (xs, ys).
+// sigCtx at place (x, y) of sub-block (xs, ys): the rule of a single place. Reader and writer take the words below, which hold the same numbers for a whole sub-block.
 pub fn sig_ctx(
     map: &[[u8; 4]; 4],
     log2: u32,
@@ -91,4 +92,40 @@ pub fn sig_ctx(
         return if luma { 0 } else { 27 };
     }
     plus(log2, luma, scan, 0 < xs + ys) + near(neighbours, x, y)
+}
+
+// ctxIdxMap at the places of a 4x4 block's scan, four bits a place; the last place is never asked for.
+pub fn map_word(scan: u32) -> u64
+    requires { ⌜ scan ≤ 2 ⌝ }
+    ensures { λ r. ⌜ ((k : ℕ) → k < 15 → fourAt r k ≡ mapAt scan k) ⌝ }
+{
+    match scan {
+        0 => 614045720785412384,
+        1 => 610106247612617744,
+        _ => 600535952945935904,
+    }
+}
+
+// By which neighbours are coded, right 1 and below 2, at the places of a sub-block's scan, four bits a place.
+pub fn near_word(neighbours: u32, scan: u32) -> u64
+    requires { ⌜ (neighbours ≤ 3) × (scan ≤ 2) ⌝ }
+    ensures { λ r. ⌜ ((k : ℕ) → k < 16 → fourAt r k ≡ nearAt neighbours scan k) ⌝ }
+{
+    match neighbours {
+        0 => match scan {
+            0 => 1118482,
+            _ => 4296081682,
+        },
+        1 => match scan {
+            0 => 281616712794642,
+            1 => 286335522,
+            _ => 5066626891382802,
+        },
+        2 => match scan {
+            0 => 1099813691682,
+            1 => 5066626891382802,
+            _ => 286335522,
+        },
+        _ => 2459565876494606882,
+    }
 }

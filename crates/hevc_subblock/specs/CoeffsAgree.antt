@@ -19,8 +19,8 @@ use Rattle.hevc_elements.specs.Agree.{from}
 use Rattle.hevc_rules.specs.declared.places.Places.{Places}
 use Rattle.hevc_subblock.specs.declared.greater.Greaters.{Greaters}
 use Rattle.hevc_subblock.specs.declared.greater.Greaters.the-variants as greaters
-use Rattle.hevc_subblock.specs.declared.levels.Leveled.{Leveled}
-use Rattle.hevc_subblock.specs.declared.levels.Leveled.the-variants as leveled
+use Rattle.hevc_levels.specs.declared.levels.Leveled.{Leveled}
+use Rattle.hevc_levels.specs.declared.levels.Leveled.the-variants as leveled
 use Rattle.hevc_rules.specs.declared.coeffs.Carry.{Carry}
 use Rattle.hevc_subblock.specs.declared.coeffs.Carried.{Carried}
 use Rattle.hevc_subblock.specs.declared.coeffs.Carried.the-variants as carried
@@ -37,11 +37,11 @@ greatersRefusal (greaters.Got g y) = refusedAt 0 y
 greatersRefusal (greaters.Refused n) = n
 
 abbrev pub leveledRefusal : Leveled → Refusal
-leveledRefusal (leveled.Got g y) = refusedAt 0 y
+leveledRefusal (leveled.Got g k y) = refusedAt 0 y
 leveledRefusal (leveled.Refused n) = n
 
 abbrev pub SaysCoeffs : Params → Head → Spot → Bool → List ℕ → ℕ → Places → Carry → Interval → List ℕ → List ℤ → List ℕ → Carried → List ℕ → List ℤ → List ℕ → Type 0
-SaysCoeffs p h at list l ctxSet s c x cs levels stats (carried.Got d y) cs′ levels′ stats′ =
+SaysCoeffs p h at list l ctxSet s c x cs levels stats (carried.Got d k y) cs′ levels′ stats′ =
     Carries d
     × ((lv : ℕ → Wanted → ℤ) (coded : List Bool)
     → from list l (coeffsOf p h at lv ctxSet s (accOf c coded levels stats)) x cs ≡ Out.ok (accOf d coded levels′ stats′) (cursor y cs′))

@@ -31,19 +31,21 @@ use Rattle.hevc_elements.specs.ShapeLaws.{run-done}
 use Rattle.hevc_head.specs.HeadAgree.{headOf}
 use Rattle.hevc_head.specs.HeadLaws.{Behind, behind-ok, behind-no, behind-flag, behind-bits}
 use Rattle.hevc_rules.specs.declared.places.Places.{Places}
+use Rattle.hevc_level_rules.specs.StartLaws.{startOf, start-fits}
 use Rattle.hevc_subblock.specs.declared.greater.Greater.{Greater}
 use Rattle.hevc_subblock.specs.declared.greater.Greaters.{Greaters}
 use Rattle.hevc_subblock.specs.declared.greater.Greaters.the-variants as greaters
 use Rattle.hevc_rules.specs.declared.levels.Going.{Going}
-use Rattle.hevc_subblock.specs.declared.levels.Leveled.{Leveled}
-use Rattle.hevc_subblock.specs.declared.levels.Leveled.the-variants as leveled
+use Rattle.hevc_levels.specs.declared.levels.Stored.{Stored}
+use Rattle.hevc_levels.specs.declared.levels.Leveled.{Leveled}
+use Rattle.hevc_levels.specs.declared.levels.Leveled.the-variants as leveled
 use Rattle.hevc_rules.specs.declared.coeffs.Carry.{Carry}
 use Rattle.hevc_rules.specs.Packing.{Packs, unpack, unmask}
 use Rattle.hevc_rules.specs.PackingLaws.{unmask-count}
 use Rattle.hevc_rules.specs.GreaterAgree.{none}
 use Rattle.hevc_subblock.specs.GreaterAgree.{SaysGreater}
 use Rattle.hevc_rules.specs.LevelsAgree.{Fine, goingS}
-use Rattle.hevc_subblock.specs.LevelsAgree.{SaysAll}
+use Rattle.hevc_levels.specs.LevelsAgree.{SaysAll}
 use Rattle.hevc_rules.specs.CoeffsAgree.{Carries, accOf, coeffsOf, hides}
 use Rattle.hevc_subblock.specs.CoeffsAgree.{alignedIf, greatersRefusal, leveledRefusal}
 use Rattle.hevc_rules.specs.CoeffsLaws.{mask-any, levelsOf, allOf, levelsLeft, signsLeft, alignLeft, flagLeft, coeffs-parts, places-all, places-many}
@@ -71,7 +73,7 @@ pub record AnsweredBins (r : Greaters) (T : Greater → Interval → Type 0) (N 
   pub no : (m n : Refusal) → r ≡ greaters.Refused m → n ≡ greatersRefusal r → N n
 
 pub record AnsweredLevels (r : Leveled) (T : Going → Interval → Type 0) (N : Refusal → Type 0) : Type 0 where
-  pub ok : (g : Going) (z : Interval) → r ≡ leveled.Got g z → T g z
+  pub ok : (g : Going) (k : Stored) (z : Interval) → r ≡ leveled.Got g k z → T g z
   pub no : (m n : Refusal) → r ≡ leveled.Refused m → n ≡ leveledRefusal r → N n
 
 bins-ok : (n : ℕ) (r : Greaters) (g : Greater) (z : Interval) (es : List ℕ) (o : Out Cursor Greater1) → SaysGreater n r es o → r ≡ greaters.Got g z
@@ -82,8 +84,9 @@ bins-no : (n : ℕ) (r : Greaters) (m : Refusal) (es : List ℕ) (o : Out Cursor
 bins-no n r m es o h q = subst (λ (i : Greaters). SaysGreater n i es o) q h
 
 levels-ok : (p : Params) (at : Spot) (list : Bool) (l : List ℕ) (g2 : Bool) (signs : ℕ) (g : Going) (y : Interval) (levels : List ℤ) (r : Leveled) (after : List ℤ)
-    (e : Going) (z : Interval) → SaysAll p at list l g2 signs g y levels r after → r ≡ leveled.Got e z → SaysAll p at list l g2 signs g y levels (leveled.Got e z) after
-levels-ok p at list l g2 signs g y levels r after e z h q = subst (λ (i : Leveled). SaysAll p at list l g2 signs g y levels i after) q h
+    (e : Going) (k : Stored) (z : Interval) → SaysAll p at list l g2 signs g y levels r after → r ≡ leveled.Got e k z
+    → SaysAll p at list l g2 signs g y levels (leveled.Got e k z) after
+levels-ok p at list l g2 signs g y levels r after e k z h q = subst (λ (i : Leveled). SaysAll p at list l g2 signs g y levels i after) q h
 
 levels-no : (p : Params) (at : Spot) (list : Bool) (l : List ℕ) (g2 : Bool) (signs : ℕ) (g : Going) (y : Interval) (levels : List ℤ) (r : Leveled) (after : List ℤ)
     (m : Refusal) → SaysAll p at list l g2 signs g y levels r after → r ≡ leveled.Refused m → SaysAll p at list l g2 signs g y levels (leveled.Refused m) after
@@ -271,44 +274,13 @@ module _ (p : Params) (h : Head) (at : Spot) (list : Bool) (l : List ℕ) (ctxSe
         module _ (signs : ℕ) (y : Interval) (ds : List ℕ) (d : Left (toLevels mask carry g2 signs) y ds) (n hid sb stat rice : ℕ) (en : n ≡ min 8 (s .count))
             (eh : hid ≡ bitNo (hides p (h .skip) (h .rdpcm) s)) (eb : sb ≡ sbType p (headOf h)) (es : stat ≡ getD stats sb 0)
             (er : rice ≡ cond (p .persistent) (stat / 4) 0) where
-          abbrev pub startOf : Going
-          startOf =
-              record {
-                places = s .packed;
-                count = s .count;
-                mask = mask;
-                bins = n;
-                seen = false;
-                signs = s .count - hid;
-                rice = rice;
-                had = false;
-                sum = 0;
-                column = c .column;
-                stat = stat;
-              }
+          abbrev pub start : Going
+          start = startOf s mask n hid rice stat (c .column)
 
-          pub start-fine : Packs s → Carries c → Statistics stats → Fine p startOf
-          start-fine k f t =
-              record {
-                places = k .small;
-                few = k .few;
-                mask = subst (λ i. mask < 2 ^ i) (sym en) small;
-                bins = omega arith;
-                signs = omega (arith, k .few);
-                rice = go (p .persistent) er;
-                stat = stat-few;
-                sum = omega (arith, k .few);
-                column = f .column;
-              }
-            where
-              stat-few : stat ≤ 84
-              stat-few = subst (λ i. i ≤ 84) (sym es) (t sb)
+          pub start-fine : Packs s → Carries c → Statistics stats → Fine p start
+          start-fine k f t = start-fits p s mask n hid rice stat (c .column) stats sb k (subst (λ i. mask < 2 ^ i) (sym en) small) en es t er (f .column)
 
-              go : (b : Bool) → rice ≡ cond b (stat / 4) 0 → rice ≤ 21
-              go true q = omega (arith, stat-few)
-              go false q = omega arith
-
-          going-is : (lv : ℕ → Wanted → ℤ) (coded : List Bool) → goingS p at lv g2 signs startOf levels
+          going-is : (lv : ℕ → Wanted → ℤ) (coded : List Bool) → goingS p at lv g2 signs start levels
               ≡ levelsOf p (headOf h) lv (spotIn (innerOf p) at) ctxSet (s .packed % 16) (unpack (s .packed / 16) (s .count - 1)) (accOf c coded levels stats) (marked mask carry) g2 signs
           going-is lv coded =
               let ks = s .packed % 16 ∷ unpack (s .packed / 16) (s .count - 1) in
@@ -341,7 +313,7 @@ module _ (p : Params) (h : Head) (at : Spot) (list : Bool) (l : List ℕ) (ctxSe
           opened lv coded = d lv coded
 
           all-ok : (g : Going) (z : Interval) (after : List ℤ) (lv : ℕ → Wanted → ℤ) (coded : List Bool)
-              → from list l (goingS p at lv g2 signs startOf levels) y ds ≡ Out.ok (record { levels = after; column = g .column; stat = g .stat }) (cursor z ds)
+              → from list l (goingS p at lv g2 signs start levels) y ds ≡ Out.ok (record { levels = after; column = g .column; stat = g .stat }) (cursor z ds)
               → from list l (whole lv coded) x cs
               ≡ Out.ok (accOf (record { carry = carry; first = false; column = g .column }) coded after (set stats sb (g .stat))) (cursor z ds)
           all-ok g z after lv coded q =
@@ -352,14 +324,14 @@ module _ (p : Params) (h : Head) (at : Spot) (list : Bool) (l : List ℕ) (ctxSe
               ∙ run-done list l (accOf (record { carry = carry; first = false; column = g .column }) coded after (set stats (sbType p (headOf h)) (g .stat))) z ds
               ∙ ap (λ i. Out.ok (accOf (record { carry = carry; first = false; column = g .column }) coded after (set stats i (g .stat))) (cursor z ds)) (sym eb)
 
-          all-no : (m : Refusal) (lv : ℕ → Wanted → ℤ) (coded : List Bool) → RefusedBy m (from list l (goingS p at lv g2 signs startOf levels) y ds)
+          all-no : (m : Refusal) (lv : ℕ → Wanted → ℤ) (coded : List Bool) → RefusedBy m (from list l (goingS p at lv g2 signs start levels) y ds)
               → RefusedBy m (from list l (whole lv coded) x cs)
           all-no m lv coded q =
               behind-no list l (whole lv coded) x cs (filledBy lv coded) (behindLevels lv coded) y ds (opened lv coded) m
               (subst (λ t. RefusedBy m (from list l t y ds)) (going-is lv coded) q)
 
           -- r is what the loop answered, with the block behind it
-          pub read-levels : (r : Leveled) (after : List ℤ) → SaysAll p at list l g2 signs startOf y levels r after
+          pub read-levels : (r : Leveled) (after : List ℤ) → SaysAll p at list l g2 signs start y levels r after
               → AnsweredLevels r
               (λ g z. Fine p g
               × ((lv : ℕ → Wanted → ℤ) (coded : List Bool) → from list l (coeffsOf p h at lv ctxSet s (accOf c coded levels stats)) x cs
@@ -367,11 +339,11 @@ module _ (p : Params) (h : Head) (at : Spot) (list : Bool) (l : List ℕ) (ctxSe
               NoLevels
           read-levels r after e =
               record {
-                ok = λ g z q.
-                    let f = levels-ok p at list l g2 signs startOf y levels r after g z e q in
+                ok = λ g k z q.
+                    let f = levels-ok p at list l g2 signs start y levels r after g k z e q in
                     (f .0, λ lv coded. all-ok g z after lv coded (f .2 lv ds));
                 no = λ m n q u lv coded.
                     let i : m ≡ n = sym (u ∙ ap leveledRefusal q) in
                     subst (λ k. RefusedBy k (from list l (whole lv coded) x cs)) i
-                    (all-no m lv coded (levels-no p at list l g2 signs startOf y levels r after m e q lv ds));
+                    (all-no m lv coded (levels-no p at list l g2 signs start y levels r after m e q lv ds));
               }

@@ -2,7 +2,6 @@ pub mod PlacesAgree
 pub mod PlacesLaws
 pub mod GreaterAgree
 pub mod GreaterLaws
-pub mod LevelsAgree
-pub mod LevelLaws
 pub mod CoeffsAgree
 pub mod CoeffsLaws
+pub mod CarriedKeeps

@@ -1,8 +1,6 @@
 // The levels at the significant places of a sub-block: greater1, greater2, alignment, signs, remainders.
 use crate::greater::Greaters;
 use crate::greater::greater1;
-use crate::levels::Leveled;
-use crate::levels::read_levels;
 use bin_steps::steps::align_bypass;
 use bin_steps::steps::decode_bypass_bits;
 use bins::state::Interval;
@@ -10,15 +8,18 @@ use bins::state::Refusal;
 use bins::state::Step;
 use bins::state::refusal_of;
 use bins::tags::CONTEXTS;
+use hevc_coeff_rules::coeffs::aligns;
+use hevc_coeff_rules::coeffs::eight;
+use hevc_coeff_rules::coeffs::greater1_base;
+use hevc_coeff_rules::coeffs::greater2_number;
+use hevc_coeff_rules::coeffs::hidden;
+use hevc_coeff_rules::coeffs::rice_start;
+use hevc_coeff_rules::coeffs::sb_type;
 use hevc_elements::shapes::flag_if;
 use hevc_head::head::Head;
-use hevc_level_rules::coeffs::aligns;
-use hevc_level_rules::coeffs::eight;
-use hevc_level_rules::coeffs::greater1_base;
-use hevc_level_rules::coeffs::greater2_number;
-use hevc_level_rules::coeffs::hidden;
-use hevc_level_rules::coeffs::rice_start;
-use hevc_level_rules::coeffs::sb_type;
+use hevc_levels::levels::Leveled;
+use hevc_levels::levels::Stored;
+use hevc_levels::levels::read_levels;
 use hevc_residual::params::Params;
 use hevc_rules::coeffs::Carry;
 use hevc_rules::levels::Going;
@@ -38,9 +39,11 @@ ghost use Rattle.hevc_rules.specs.LevelsAgree.{Site};
 ghost use Rattle.hevc_residual.specs.Limits.{Statistics};
 ghost use Rattle.hevc_rules.specs.CoeffsAgree.{Carries};
 ghost use Rattle.hevc_subblock.specs.CoeffsAgree.{SaysCoeffs, alignedIf, greatersRefusal, leveledRefusal};
+ghost use Rattle.hevc_levels.specs.StoredAgree.{Keeps};
+ghost use Rattle.hevc_subblock.specs.CarriedKeeps.{KeepsOn};
 
 pub enum Carried {
-    Got(Carry, Interval),
+    Got(Carry, Stored, Interval),
     Refused(Refusal),
 }
 
@@ -67,13 +70,13 @@ fn leveled_refusal(l: Leveled) -> Refusal
     ensures { λ r. ⌜ r ≡ leveledRefusal l ⌝ }
 {
     match l {
-        Leveled::Got(_, y) => Refusal { number: 0, at: y },
+        Leveled::Got(_, _, y) => Refusal { number: 0, at: y },
         Leveled::Refused(r) => r,
     }
 }
 
 // A sub-block's levels, behind its places. What is lent is apart, since each function over a struct that held it would be walked by hand; then what the block has settled (p, t, h),
-// the sub-block's place, its context set and significant places, what is carried on.
+// the sub-block's place, its context set and significant places, what is carried on, what is told of the levels stored.
 pub fn coeffs(
     list: bool,
     table: &[u32; 512],
@@ -90,10 +93,11 @@ pub fn coeffs(
     ctxset: u32,
     s: Places,
     c: Carry,
+    k: Stored,
     x: Interval,
 ) -> Carried
-    requires { ⌜ Reads list (now bytes) x (now contexts) × (now table ≡ decisions) × (now order ≡ pairsOf (innerOf p)) × Site p xs ys × (length (now block) ≡ area p) × (t ≡ log2TransformRange p) × Statistics (now stats) × (ctxset ≤ 3) × Packs s × (0 < s .count) × Carries c ⌝ }
-    ensures { λ r. ⌜ (length (now (block .exit)) ≡ area p) × Statistics (now (stats .exit)) × SaysCoeffs p h (spot xs ys) list (now (bytes .entry)) ctxset s c x (now (contexts .entry)) (now (block .entry)) (now (stats .entry)) r (now (contexts .exit)) (now (block .exit)) (now (stats .exit)) ⌝ }
+    requires { ⌜ Reads list (now bytes) x (now contexts) × (now table ≡ decisions) × (now order ≡ pairsOf (innerOf p)) × Site p xs ys × (length (now block) ≡ area p) × (t ≡ log2TransformRange p) × Statistics (now stats) × (ctxset ≤ 3) × Packs s × (0 < s .count) × Carries c × Keeps p k (now block) ⌝ }
+    ensures { λ r. ⌜ (length (now (block .exit)) ≡ area p) × Statistics (now (stats .exit)) × SaysCoeffs p h (spot xs ys) list (now (bytes .entry)) ctxset s c x (now (contexts .entry)) (now (block .entry)) (now (stats .entry)) r (now (contexts .exit)) (now (block .exit)) (now (stats .exit)) × KeepsOn p r (now (block .exit)) ⌝ }
 {
     let g = greater1(
         list,
@@ -156,9 +160,10 @@ pub fn coeffs(
         two == 1,
         signs,
         start,
+        k,
         x4,
     );
-    let Leveled::Got(e, x5) = l else {
+    let Leveled::Got(e, told, x5) = l else {
         return Carried::Refused(leveled_refusal(l));
     };
     stats[sb] = e.stat;
@@ -168,6 +173,7 @@ pub fn coeffs(
             first: false,
             column: e.column,
         },
+        told,
         x5,
     )
 }

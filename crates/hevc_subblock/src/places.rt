@@ -5,22 +5,21 @@ use bins::state::Step;
 use bins::state::refusal_of;
 use bins::tags::CONTEXTS;
 use hevc_elements::shapes::context_bin;
-use hevc_residual::params::Params;
 use hevc_rules::places::Places;
+use hevc_rules::places::SigNumbers;
 use hevc_rules::places::appended;
 use hevc_rules::places::inferred;
-use hevc_rules::places::sig_number;
+use hevc_rules::places::number_at;
 ghost use Rattle.bins.specs.Tags.{contextCount};
 ghost use mathlib.Core.Path.{_≡_};
 ghost use Prim.Native.Nat.{ℕ, _+_, _≤_, _<_};
 ghost use lib.IntN.{ℤ};
 ghost use Rattle.tables.specs.Decisions.{decisions};
-ghost use Rattle.hevc_residual.specs.Wanted.{Wanted, innerOf};
+ghost use Rattle.hevc_residual.specs.Wanted.{Wanted};
 ghost use Rattle.hevc_residual.specs.SubBlock.{placesS};
-ghost use Rattle.hevc_scans.specs.Pairs.{pairsOf, mapRows};
 ghost use Rattle.hevc_elements.specs.Agree.{Reads, from};
 ghost use Rattle.hevc_rules.specs.Packing.{Packs, unpacked};
-ghost use Rattle.hevc_rules.specs.PlacesAgree.{sigNumber};
+ghost use Rattle.hevc_rules.specs.PlacesAgree.{numberAt};
 ghost use Rattle.hevc_subblock.specs.PlacesAgree.{SaysPlaces};
 
 pub enum Placed {
@@ -29,26 +28,20 @@ pub enum Placed {
 }
 
 // The places below `below`, behind those met already. What is lent is apart, since each function over a struct that held it would be walked by hand;
-// single, neighbours, xs and ys are what a place's context number is made of beside the place, infer whether place 0 may go without a bin.
+// numbers has the places' context numbers, infer says that place 0 may go without a bin.
 pub fn significance(
     list: bool,
     table: &[u32; 512],
     contexts: &mut [u8; CONTEXTS],
     bytes: &[u8],
-    order: &[[u8; 2]; 16],
-    map: &[[u8; 4]; 4],
-    p: Params,
-    single: bool,
-    neighbours: u32,
-    xs: u32,
-    ys: u32,
+    numbers: SigNumbers,
     infer: bool,
     below: u32,
     met: Places,
     x: Interval,
 ) -> Placed
-    requires { ⌜ Reads list (now bytes) x (now contexts) × (now table ≡ decisions) × (now order ≡ pairsOf (innerOf p)) × (now map ≡ mapRows) × (2 ≤ p .log2) × (p .log2 ≤ 5) × (p .scan ≤ 2) × (neighbours ≤ 3) × (xs ≤ 7) × (ys ≤ 7) × (p .log2 ≡ 2 → (xs ≡ 0) × (ys ≡ 0)) × Packs met × (met .count + below ≤ 16) × ((k : ℕ) → k < below → sigNumber p single neighbours xs ys k < contextCount) ⌝ }
-    ensures { λ r. ⌜ ((lv : ℕ → Wanted → ℤ) → SaysPlaces r (now (contexts .exit)) (from list (now (bytes .entry)) (placesS lv (sigNumber p single neighbours xs ys) infer below (unpacked met)) x (now (contexts .entry)))) ⌝ }
+    requires { ⌜ Reads list (now bytes) x (now contexts) × (now table ≡ decisions) × Packs met × (met .count + below ≤ 16) × ((k : ℕ) → k < below → numberAt numbers k < contextCount) ⌝ }
+    ensures { λ r. ⌜ ((lv : ℕ → Wanted → ℤ) → SaysPlaces r (now (contexts .exit)) (from list (now (bytes .entry)) (placesS lv (numberAt numbers) infer below (unpacked met)) x (now (contexts .entry)))) ⌝ }
 {
     let mut k = below;
     let mut s = met;
@@ -64,7 +57,7 @@ pub fn significance(
                 y,
             );
         }
-        let number = sig_number(order, map, p, single, neighbours, xs, ys, k);
+        let number = number_at(numbers, k);
         let t = context_bin(list, table, contexts, number, bytes, y);
         let Step::Bin(b, next) = t else {
             return Placed::Refused(refusal_of(t));

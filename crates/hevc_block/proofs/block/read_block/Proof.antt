@@ -5,7 +5,10 @@ use mathlib.Core.Bool.{Bool, false}
 use mathlib.Core.List.{List}
 use lib.ListN.{take, replicate}
 use Rattle.hevc_rules.specs.BlockLaws.{coded-none, coded-room, coded-long}
-use Rattle.hevc_block.specs.BlockLaws.{head-refused, head-reads, head-last, subs-refused, subs-got, headed-number, carried-number, zeros-long}
+use Rattle.hevc_block.specs.BlockLaws.{head-refused, head-reads, head-last, subs-refused, subs-got, headed-number, carried-number}
+use Rattle.hevc_levels.specs.StoredLaws.{}
+use Rattle.hevc_subblock.specs.CarriedKeeps.{keeps-carried}
+use Rattle.hevc_sub_blocks.specs.SmallLaws.{zeros-long}
 use Rattle.hevc_block.proofs.block.read_block.Statement.{statement}
 use Rattle.hevc_block.proofs.block.read_block.Tie as tie
 
@@ -70,7 +73,7 @@ sub-blocks-requires c κs =
       b .pre .1,
       head-last (a .p) (b .pre .2) (a .list) (a .bytes .now) (a .x) (a .contexts .now) (a .stats .now) (d .read-head .result) (d .read-head .last .1 .1 .0) (d .read-head .ensures) h y (u .r .given .1),
       coded-long (a .p) (g .result) (g .ensures) (b .pre .2),
-      zeros-long (a .p) (a .block .now) (b .pre .3),
+      b .pre .3,
       b .pre .4,
     )
 
@@ -105,7 +108,9 @@ returns-2 c =
 told-of-requires : tie.Need-told-of-requires
 told-of-requires c κs =
     let e = c .before .before .before .before .before .before in
-    (start1 (call2 e) .pre .2, e .sub-blocks .ensures .0)
+    let s = e .sub-blocks in
+    let b = start1 (call2 e) in
+    (b .pre .2, s .ensures .0, keeps-carried (b .args .p) (s .result) _ _ _ (s .last .1 .1 .1 .1 .1 .0) (s .ensures .3) (c .before .before .s .given .1))
 
 found-of-requires : tie.Need-found-of-requires
 found-of-requires c κs = search needs
@@ -128,7 +133,7 @@ returns-3 c =
       s .ensures .1,
       subs-got (a .p) (b .pre .2) (a .list) (a .bytes .now) (a .x) (a .contexts .now) (a .stats .now) (d .read-head .result) (d .read-head .last .1 .1 .0) (d .read-head .ensures) (u .r .given .0 .0) (u .r .given .0 .1 .0) (u .r .given .1)
           (coded2 e) (a .block .now) (coded-none (a .p) (g .result) (g .ensures)) (b .pre .3) (s .result) (s .last .1 .1 .0) (s .last .1 .1 .1 .1 .0) (s .last .1 .1 .1 .1 .1 .0) (s .last .1 .1 .1 .1 .1 .1 .0) (s .ensures .2)
-          (b .pre .4) (v .s .given .0 .0) (v .s .given .0 .1 .0) (v .s .given .1) (c .found-of .result) (t .result .row) (t .result .greatest) (t .ensures .0) (t .ensures .1) (c .found-of .ensures),
+          (b .pre .4) (v .s .given .0 .0) (v .s .given .0 .1 .0) (v .s .given .0 .1 .1 .0) (v .s .given .1) (c .found-of .result) (t .result .row) (t .result .greatest) (t .ensures .0) (t .ensures .1) (c .found-of .ensures),
     )
 
 pub read-block-spec : {M : Type 1} → statement M

@@ -10,25 +10,25 @@ use mir.Facts.{toZ-ofZ}
 use Rattle.bins.specs.Engine.{bitNo}
 use Prim.Native.Nat.{_-_}
 use borrow.Author.Needs.{needs}
-use Rattle.hevc_rules.specs.PlacesAgree.{sigNumber}
+use Rattle.hevc_rules.specs.PlacesAgree.{numberAt}
 use Rattle.pen.specs.Sheet.{sheet}
 use Rattle.hevc_block_pen.specs.PlacesPuts.{Putting, putting-begins, putting-inferred, putting-on, putting-ends, put-number}
 use Rattle.hevc_block_pen.proofs.places.put_places.Statement.{statement}
 use Rattle.hevc_block_pen.proofs.places.put_places.Tie as tie
 
 abbrev Inv-loop : tie.InvT-loop
-Inv-loop room₀ levels order map p single neighbours xs ys infer below k₀ s₀ y₀ room k s y = Putting levels (sigNumber p single neighbours xs ys) infer below s₀
+Inv-loop room₀ levels numbers infer below k₀ s₀ y₀ room k s y = Putting levels (numberAt numbers) infer below s₀
     (sheet room₀ y₀) k s (sheet room y)
 
 abbrev μ-loop : tie.MeasureT-loop
-μ-loop room₀ levels order map p single neighbours xs ys infer below k₀ s₀ y₀ room k s y = k
+μ-loop room₀ levels numbers infer below k₀ s₀ y₀ room k s y = k
 
 loop-holds : tie.Need-loop-holds Inv-loop μ-loop
 loop-holds c =
     let start-place = c .before in
     let a = start-place .args in
-    putting-begins (a .levels .now) (sigNumber (a .p) (a .single) (a .neighbours) (a .xs) (a .ys)) (a .infer) (a .below) (a .met) (sheet (a .room .now) (a .pen))
-    (start-place .pre .9) (start-place .pre .10)
+    putting-begins (a .levels .now) (numberAt (a .numbers)) (a .infer) (a .below) (a .met) (sheet (a .room .now) (a .pen))
+    (start-place .pre .0) (start-place .pre .1)
 
 sub-k : tie.Need-sub-k Inv-loop μ-loop
 sub-k c = search needs
@@ -47,26 +47,12 @@ returns c =
     let start-place = at-loop-place .before .before in
     let a = start-place .args in
     let t = at-loop-place .loop in
-    putting-inferred (a .levels .now) (sigNumber (a .p) (a .single) (a .neighbours) (a .xs) (a .ys)) (a .infer) (a .below) (a .met) (sheet (a .room .now) (a .pen))
+    putting-inferred (a .levels .now) (numberAt (a .numbers)) (a .infer) (a .below) (a .met) (sheet (a .room .now) (a .pen))
     (t .k) (t .s) (sheet (t .room) (t .y)) (t .inv) (in-loop-place .loop-test .taken) (inferred-place .inferred .result) (inferred-place .inferred .ensures)
     (c .if1 .taken)
 
-sig-number-requires : tie.Need-sig-number-requires Inv-loop μ-loop
-sig-number-requires c κs =
-    let at-loop-place = c .before .before .before in
-    let start-place = at-loop-place .before .before in
-    let h = start-place .pre in (
-      h .0,
-      h .1,
-      h .2,
-      h .3,
-      h .4,
-      h .5,
-      h .6,
-      h .7,
-      h .8,
-      omega (arith, at-loop-place .loop .inv .few),
-    )
+number-at-requires : tie.Need-number-at-requires Inv-loop μ-loop
+number-at-requires c κs = omega (arith, c .before .before .before .loop .inv .few)
 
 cast-is-level : tie.Need-cast-is-level Inv-loop μ-loop
 cast-is-level c = search needs
@@ -84,12 +70,12 @@ is-level-requires c κs = search needs
 
 put-bin-requires : tie.Need-put-bin-requires Inv-loop μ-loop
 put-bin-requires c κs =
-    let sig-number-place = c .before .before .before in
-    let at-loop-place = sig-number-place .before .before .before .before in
+    let number-at-place = c .before .before .before in
+    let at-loop-place = number-at-place .before .before .before .before in
     let start-place = at-loop-place .before .before in
     let a = start-place .args in
     let t = at-loop-place .loop in
-    put-number (sig-number-place .sig-number .result) _ (sig-number-place .sig-number .ensures) (start-place .pre .11 (t .k - 1) (omega (arith, t .inv .low)))
+    put-number (number-at-place .number-at .result) _ (number-at-place .number-at .ensures) (start-place .pre .2 (t .k - 1) (omega (arith, t .inv .low)))
 
 appended-requires : tie.Need-appended-requires Inv-loop μ-loop
 appended-requires c κs =
@@ -111,8 +97,8 @@ loop-again c =
     let put-bin-place = c .before .before .before in
     let is-level-place = put-bin-place .before .before in
     let is-level-arg-place = is-level-place .before in
-    let sig-number-place = is-level-arg-place .before in
-    let else1-place = sig-number-place .before in
+    let number-at-place = is-level-arg-place .before in
+    let else1-place = number-at-place .before in
     let inferred-place = else1-place .before in
     let in-loop-place = inferred-place .before in
     let at-loop-place = in-loop-place .before in
@@ -121,11 +107,11 @@ loop-again c =
     let t = at-loop-place .loop in
     let f : SFits w32 (getD (a .levels .now) (t .k - 1) (pos 0)) = record { sfits = is-level-arg-place .is-level-arg .given } in
     subst
-    (Putting (a .levels .now) (sigNumber (a .p) (a .single) (a .neighbours) (a .xs) (a .ys)) (a .infer) (a .below) (a .met) (sheet (a .room .now) (a .pen)) (t .k - 1) (c .appended .result))
+    (Putting (a .levels .now) (numberAt (a .numbers)) (a .infer) (a .below) (a .met) (sheet (a .room .now) (a .pen)) (t .k - 1) (c .appended .result))
     (sym (put-bin-place .put-bin .ensures))
-    (putting-on (a .levels .now) (sigNumber (a .p) (a .single) (a .neighbours) (a .xs) (a .ys)) (a .infer) (a .below) (a .met) (sheet (a .room .now) (a .pen)) (t .k)
+    (putting-on (a .levels .now) (numberAt (a .numbers)) (a .infer) (a .below) (a .met) (sheet (a .room .now) (a .pen)) (t .k)
     (t .s) (sheet (t .room) (t .y)) (t .inv) (in-loop-place .loop-test .taken) (inferred-place .inferred .result) (inferred-place .inferred .ensures)
-    (else1-place .if1 .left) (sig-number-place .sig-number .result) (sig-number-place .sig-number .ensures) (is-level-place .is-level .result)
+    (else1-place .if1 .left) (number-at-place .number-at .result) (number-at-place .number-at .ensures) (is-level-place .is-level .result)
     (is-level-place .is-level .ensures .0 ∙ ap (λ v. bitNo (ltb 0 (natAbs v))) (toZ-ofZ f)) (c .appended .result) (c .appended .ensures)
     (is-level-place .is-level .ensures .1))
 
@@ -138,7 +124,7 @@ returns-2 c =
     let start-place = at-loop-place .before .before in
     let a = start-place .args in
     let t = at-loop-place .loop in
-    putting-ends (a .levels .now) (sigNumber (a .p) (a .single) (a .neighbours) (a .xs) (a .ys)) (a .infer) (a .below) (a .met) (sheet (a .room .now) (a .pen))
+    putting-ends (a .levels .now) (numberAt (a .numbers)) (a .infer) (a .below) (a .met) (sheet (a .room .now) (a .pen))
     (t .k) (t .s) (sheet (t .room) (t .y)) (t .inv) (c .loop-test .left)
 
 pub put-places-spec : {M : Type 1} → statement M
@@ -152,7 +138,7 @@ put-places-spec =
     inferred-requires
     same-length
     returns
-    sig-number-requires
+    number-at-requires
     cast-is-level
     mul-is-level
     element-copy-out-is-level

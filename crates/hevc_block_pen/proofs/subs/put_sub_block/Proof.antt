@@ -1,11 +1,13 @@
 -- `put_sub_block` meets its contract: from call to call by what is left of the tree. Assumes nothing.
 use native.Mathlib.Omega.{arith}
-use mathlib.Core.Path.{sym, _∙_}
+use mathlib.Core.Path.{_≡_, sym, _∙_}
+use Prim.Native.Nat.{ℕ, _<_}
 use borrow.Author.Needs.{needs}
 use borrow.Author.Tests.{not-true, not-false}
 use Rattle.hevc_scans.specs.ScanLaws.{outer-small}
 use Rattle.hevc_residual.specs.Scan.{spot}
-use Rattle.hevc_rules.specs.SubCode.{row-few, column-in, row-in, grid-few, flags-square, grid-in, near-few, marked-length, places-few, asked-small}
+use Rattle.hevc_rules.specs.PlacesAgree.{sigNumber, numberAt}
+use Rattle.hevc_rules.specs.SubCode.{row-few, column-in, row-in, grid-few, flags-square, grid-in, near-few, marked-length, places-few, asked-held, held-small}
 use Rattle.hevc_block_pen.specs.SubsPuts.{shown-in-range, sub-none, sub-empty, sub-levels}
 use Rattle.hevc_block_pen.proofs.subs.put_sub_block.Statement.{statement}
 use Rattle.hevc_block_pen.proofs.subs.put_sub_block.Tie as tie
@@ -27,8 +29,11 @@ abbrev first : tie.After-coded-now → tie.Start
 first c = start (neared (looked (flagged c)))
 
 -- behind it: the levels taken, the significance flags put, their places at hand
+abbrev numbered : tie.After-met → tie.After-sig-numbers
+numbered c = c .before .before
+
 abbrev asked : tie.After-met → tie.After-is-single
-asked c = c .before .before
+asked c = numbered c .before
 
 abbrev taken : tie.After-is-single → tie.After-levels-of
 taken c = c .before .before .before
@@ -45,14 +50,28 @@ put-at c = gone c .before
 abbrev filled : tie.After-ctxset-of → tie.Else2
 filled c = c .before .before .before .before
 
+-- the contexts held are those of the syntax at every place that is asked for
+held : (m : tie.After-met) → (k : ℕ) → k < m .before .places-below .result
+    → numberAt (numbered m .sig-numbers .result) k
+    ≡ sigNumber (first (coded-at (taken (asked m))) .args .p) (asked m .is-single .result)
+    (neared (looked (flagged (coded-at (taken (asked m))))) .neighbours-of .result) (first (coded-at (taken (asked m))) .args .xs)
+    (first (coded-at (taken (asked m))) .args .ys) k
+held m =
+    let b = first (coded-at (taken (asked m))) in
+    let a = b .args in
+    let v = m .before .places-below in
+    asked-held (a .p) (a .i) (a .last) (a .lastin) (v .result) (b .pre .9) (b .pre .11) (v .ensures) (asked m .is-single .result)
+    (neared (looked (flagged (coded-at (taken (asked m))))) .neighbours-of .result) (a .xs) (a .ys) (numbered m .sig-numbers .result)
+    (numbered m .sig-numbers .ensures)
+
 neighbours-of-requires : tie.Need-neighbours-of-requires
 neighbours-of-requires c κs =
     let b = c .before .before .before in
     let a = b .args in (
-      flags-square (a .p) (a .xs) (a .ys) (a .w) (b .pre .2) (b .pre .12) (a .coded .now) (b .pre .3),
-      row-few (a .p) (a .xs) (a .ys) (a .w) (b .pre .2) (b .pre .12),
-      column-in (a .p) (a .xs) (a .ys) (a .w) (b .pre .2) (b .pre .12),
-      row-in (a .p) (a .xs) (a .ys) (a .w) (b .pre .2) (b .pre .12),
+      flags-square (a .p) (a .xs) (a .ys) (a .w) (b .pre .2) (b .pre .1) (a .coded .now) (b .pre .3),
+      row-few (a .p) (a .xs) (a .ys) (a .w) (b .pre .2) (b .pre .1),
+      column-in (a .p) (a .xs) (a .ys) (a .w) (b .pre .2) (b .pre .1),
+      row-in (a .p) (a .xs) (a .ys) (a .w) (b .pre .2) (b .pre .1),
     )
 
 is-middle-requires : tie.Need-is-middle-requires
@@ -88,22 +107,22 @@ returns c =
       b .pre .6,
       b .pre .7,
       sub-none (a .p) (a .h) (a .last) (a .lastin) (a .i) (a .xs) (a .ys) (b .pre .8) (a .block .now) (a .coded .now) (a .c) (a .stats .now)
-          (k .is-bare .result) (k .is-bare .ensures) (a .w) (b .pre .12) (n .neighbours-of .result) (n .neighbours-of .ensures)
+          (k .is-bare .result) (k .is-bare .ensures) (a .w) (b .pre .1) (n .neighbours-of .result) (n .neighbours-of .ensures)
           (k .before .is-middle .result) (k .before .is-middle .ensures) (f .before .before .flag-number .result) (f .before .before .flag-number .ensures .0)
           _ _ (f .put-coded-flag .ensures) (sym (d .coded-now .ensures) ∙ not-true _ (c .if1 .taken)),
     )
 
 mul-coded : tie.Need-mul-coded
-mul-coded c = let b = first (c .before) in let a = b .args in omega (arith, grid-few (a .p) (a .xs) (a .ys) (a .w) (b .pre .2) (b .pre .12))
+mul-coded c = let b = first (c .before) in let a = b .args in omega (arith, grid-few (a .p) (a .xs) (a .ys) (a .w) (b .pre .2) (b .pre .1))
 
 add-coded : tie.Need-add-coded
-add-coded c = let b = first (c .before) in let a = b .args in omega (arith, grid-few (a .p) (a .xs) (a .ys) (a .w) (b .pre .2) (b .pre .12))
+add-coded c = let b = first (c .before) in let a = b .args in omega (arith, grid-few (a .p) (a .xs) (a .ys) (a .w) (b .pre .2) (b .pre .1))
 
 cast-coded : tie.Need-cast-coded
-cast-coded c = let b = first (c .before) in let a = b .args in omega (arith, grid-few (a .p) (a .xs) (a .ys) (a .w) (b .pre .2) (b .pre .12))
+cast-coded c = let b = first (c .before) in let a = b .args in omega (arith, grid-few (a .p) (a .xs) (a .ys) (a .w) (b .pre .2) (b .pre .1))
 
 slice-write-coded : tie.Need-slice-write-coded
-slice-write-coded c = let b = first (c .before) in let a = b .args in grid-in (a .p) (a .xs) (a .ys) (a .w) (b .pre .2) (b .pre .12) (a .coded .now) (b .pre .3)
+slice-write-coded c = let b = first (c .before) in let a = b .args in grid-in (a .p) (a .xs) (a .ys) (a .w) (b .pre .2) (b .pre .1) (a .coded .now) (b .pre .3)
 
 levels-of-requires : tie.Need-levels-of-requires
 levels-of-requires c κs = let b = first (c .before) in (b .pre .0, b .pre .2, b .pre .4)
@@ -111,11 +130,29 @@ levels-of-requires c κs = let b = first (c .before) in (b .pre .0, b .pre .2, b
 is-single-requires : tie.Need-is-single-requires
 is-single-requires c κs = search needs
 
+sig-numbers-requires : tie.Need-sig-numbers-requires
+sig-numbers-requires c κs =
+    let n = neared (looked (flagged (coded-at (taken c)))) in
+    let b = start n in
+    let a = b .args in
+    let g = n .neighbours-of in
+    let s = b .pre .2 in
+    let x = outer-small (a .p .log2) (a .xs) (s .most) (s .column) in
+    let y = outer-small (a .p .log2) (a .ys) (s .most) (s .row) in (
+      s .least,
+      s .most,
+      s .scan,
+      near-few (a .coded .now) (a .w) (a .xs) (a .ys) (g .result) (g .ensures),
+      x .0,
+      y .0,
+      λ e. (x .1 e, y .1 e),
+    )
+
 places-below-requires : tie.Need-places-below-requires
 places-below-requires c κs = search needs
 
 met-requires : tie.Need-met-requires
-met-requires c κs = search needs
+met-requires c κs = first (coded-at (taken (c .before .before))) .pre .9
 
 put-places-requires : tie.Need-put-places-requires
 put-places-requires c κs =
@@ -124,25 +161,11 @@ put-places-requires c κs =
     let m = c .met in
     let n = neared (looked (flagged (coded-at (taken (asked c))))) in
     let b = start n in
-    let a = b .args in
-    let g = n .neighbours-of in
-    let s = b .pre .2 in
-    let x = outer-small (a .p .log2) (a .xs) (s .most) (s .column) in
-    let y = outer-small (a .p .log2) (a .ys) (s .most) (s .row) in (
-      b .pre .0,
-      b .pre .1,
-      s .least,
-      s .most,
-      s .scan,
-      near-few (a .coded .now) (a .w) (a .xs) (a .ys) (g .result) (g .ensures),
-      x .0,
-      y .0,
-      λ e. (x .1 e, y .1 e),
+    let a = b .args in (
       m .ensures .packs,
       places-few (a .i) (a .last) (a .lastin) (v .result) (m .result) (m .ensures) (b .pre .9) (v .ensures),
-      λ k u.
-          asked-small (a .p) (a .h) (a .last) (a .lastin) (a .i) (a .xs) (a .ys) (b .pre .8) (t .result) (t .ensures) (v .result) (g .result) k s (b .pre .9) (b .pre .11)
-          (v .ensures) u,
+      held-small (a .p) (a .h) (a .last) (a .lastin) (a .i) (a .xs) (a .ys) (b .pre .8) (t .result) (t .ensures) (v .result) (n .neighbours-of .result) (b .pre .2)
+          (b .pre .9) (b .pre .11) (v .ensures) (numbered c .sig-numbers .result) (numbered c .sig-numbers .ensures),
     )
 
 same-length-3 : tie.Need-same-length-3
@@ -168,11 +191,11 @@ returns-2 c =
       b .pre .6,
       b .pre .7,
       sub-empty (a .p) (a .h) (a .last) (a .lastin) (a .i) (a .xs) (a .ys) (b .pre .8) (a .block .now) (a .coded .now) (a .c) (a .stats .now)
-          (k .is-bare .result) (k .is-bare .ensures) (a .w) (b .pre .12) (n .neighbours-of .result) (n .neighbours-of .ensures)
+          (k .is-bare .result) (k .is-bare .ensures) (a .w) (b .pre .1) (n .neighbours-of .result) (n .neighbours-of .ensures)
           (k .before .is-middle .result) (k .before .is-middle .ensures) (f .before .before .flag-number .result) (f .before .before .flag-number .ensures .0)
           _ _ (f .put-coded-flag .ensures) (sym (d .coded-now .ensures) ∙ not-false _ (l .before .if1 .left))
           (asked m .is-single .result) (asked m .is-single .ensures) (m .before .places-below .result) (m .before .places-below .ensures) (m .met .result) (m .met .ensures)
-          (r .put-places .result .places) _ (l .levels-of .result) (l .levels-of .ensures) (r .put-places .ensures .1) (c .if2 .taken),
+          (numbered m .sig-numbers .result) (held m) (r .put-places .result .places) _ (l .levels-of .result) (l .levels-of .ensures) (r .put-places .ensures .1) (c .if2 .taken),
     )
 
 ctxset-of-requires : tie.Need-ctxset-of-requires
@@ -219,11 +242,11 @@ returns-3 c =
       q .put-coeffs .ensures .1,
       record { carry = q .put-coeffs .ensures .0; column = omega arith },
       sub-levels (a .p) (a .h) (a .last) (a .lastin) (a .i) (a .xs) (a .ys) (b .pre .8) (a .block .now) (a .coded .now) (a .c) (a .stats .now)
-          (k .is-bare .result) (k .is-bare .ensures) (a .w) (b .pre .12) (n .neighbours-of .result) (n .neighbours-of .ensures)
+          (k .is-bare .result) (k .is-bare .ensures) (a .w) (b .pre .1) (n .neighbours-of .result) (n .neighbours-of .ensures)
           (k .before .is-middle .result) (k .before .is-middle .ensures) (f .before .before .flag-number .result) (f .before .before .flag-number .ensures .0)
           _ _ (f .put-coded-flag .ensures) (sym (d .coded-now .ensures) ∙ not-false _ (l .before .if1 .left))
           (asked m .is-single .result) (asked m .is-single .ensures) (m .before .places-below .result) (m .before .places-below .ensures) (m .met .result) (m .met .ensures)
-          (r .put-places .result .places) _ (l .levels-of .result) (l .levels-of .ensures) (r .put-places .ensures .1) (omega (arith, o .if2 .left))
+          (numbered m .sig-numbers .result) (held m) (r .put-places .result .places) _ (l .levels-of .result) (l .levels-of .ensures) (r .put-places .ensures .1) (omega (arith, o .if2 .left))
           (t .ctxset-of .result) (t .ctxset-of .ensures .0) (q .put-coeffs .result .carry) _ _ (q .put-coeffs .ensures .2),
     )
 
@@ -246,6 +269,7 @@ put-sub-block-spec =
     slice-write-coded
     levels-of-requires
     is-single-requires
+    sig-numbers-requires
     places-below-requires
     met-requires
     put-places-requires

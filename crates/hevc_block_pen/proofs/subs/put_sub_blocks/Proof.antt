@@ -11,14 +11,14 @@ use Rattle.hevc_block_pen.proofs.subs.put_sub_blocks.Statement.{stateme
 use Rattle.hevc_block_pen.proofs.subs.put_sub_blocks.Tie as tie
 
 abbrev Inv-loop : tie.InvT-loop
-Inv-loop room₀ block order outer coded₀ stats₀ p h map w last lastin c₀ y₀ i₀ room coded stats c y i = Walking p h block coded₀ stats₀ (sheet room₀ y₀) i c coded stats (sheet room y)
+Inv-loop room₀ block order outer coded₀ stats₀ p h w last lastin c₀ y₀ i₀ room coded stats c y i = Walking p h block coded₀ stats₀ (sheet room₀ y₀) i c coded stats (sheet room y)
 
 abbrev μ-loop : tie.MeasureT-loop
-μ-loop room₀ block order outer coded₀ stats₀ p h map w last lastin c₀ y₀ i₀ room coded stats c y i = i
+μ-loop room₀ block order outer coded₀ stats₀ p h w last lastin c₀ y₀ i₀ room coded stats c y i = i
 
--- the places before: four back, and the start
+-- the places before, and the start
 abbrev back-width-of : tie.After-width-of Inv-loop μ-loop → tie.Start Inv-loop μ-loop
-back-width-of c = c .before .before .before .before
+back-width-of c = c .before .before .before
 
 abbrev start-width-of : tie.After-width-of Inv-loop μ-loop → tie.Start Inv-loop μ-loop
 start-width-of c = back-width-of c
@@ -38,14 +38,11 @@ start-at-loop c = start-number-in (back-at-loop c)
 abbrev back-slice-known4 : tie.After-slice-known4 Inv-loop μ-loop → tie.After-put-sub-block Inv-loop μ-loop
 back-slice-known4 c = c .before .before .before .before
 
-abbrev back-put-sub-block : tie.After-put-sub-block Inv-loop μ-loop → tie.After-put-sub-block-arg Inv-loop μ-loop
-back-put-sub-block c = c .before .before .before .before
-
-map4-requires : tie.Need-map4-requires Inv-loop μ-loop
-map4-requires c κs = search needs
+abbrev back-put-sub-block : tie.After-put-sub-block Inv-loop μ-loop → tie.In-loop Inv-loop μ-loop
+back-put-sub-block c = c .before .before .before .before .before .before
 
 width-of-requires : tie.Need-width-of-requires Inv-loop μ-loop
-width-of-requires c κs = (c .before .before .before .pre .2 .least, c .before .before .before .pre .2 .most)
+width-of-requires c κs = (c .before .before .pre .2 .least, c .before .before .pre .2 .most)
 
 sub-number-in : tie.Need-sub-number-in Inv-loop μ-loop
 sub-number-in c =
@@ -205,16 +202,15 @@ cast-ys-2 c =
 
 put-sub-block-requires : tie.Need-put-sub-block-requires Inv-loop μ-loop
 put-sub-block-requires c κs =
-    let in-loop-place = (c .before .before .before) .before .before .before in
+    let in-loop-place = c .before .before .before .before .before in
     let at-loop-place = in-loop-place .before in
     let number-in2-place = at-loop-place .before in
     let number-in-place = number-in2-place .before .before .before in
     let width-of-place = number-in-place .before .before .before .before in
-    let map4-place = width-of-place .before in
-    let start-place = map4-place .before .before .before in
+    let start-place = start-width-of width-of-place in
     let a = start-place .args in (
       start-place .pre .0,
-      map4-place .map4 .ensures,
+      width-of-place .width-of .ensures,
       sub-site (a .p) (a .h) (start-place .pre .2) (a .outer .now) (start-place .pre .1) (at-loop-place .loop .i - 1)
           (omega (arith, at-loop-place .loop .inv .few, in-loop-place .loop-test .taken)),
       at-loop-place .loop .inv .flags,
@@ -228,19 +224,18 @@ put-sub-block-requires c κs =
       omega (arith, at-loop-place .loop .inv .few, in-loop-place .loop-test .taken, number-in-place .number-in .ensures),
       λ e. only-last (a .p) (a .h) (start-place .pre .2) (number-in-place .number-in .result) (at-loop-place .loop .i - 1) (number-in-place .number-in .ensures)
           (omega (arith, at-loop-place .loop .inv .few, in-loop-place .loop-test .taken, number-in-place .number-in .ensures)) e,
-      width-of-place .width-of .ensures,
     )
 
 loop-less : tie.Need-loop-less Inv-loop μ-loop
 loop-less c =
-    let in-loop-place = (back-put-sub-block (back-slice-known4 (c .before .before))) .before .before .before in
+    let in-loop-place = back-put-sub-block (back-slice-known4 (c .before .before)) in
     omega (arith, in-loop-place .loop-test .taken)
 
 loop-again : tie.Need-loop-again Inv-loop μ-loop
 loop-again c =
     let room-place = (c .before .before) .before .before .before in
     let put-sub-block-place = room-place .before in
-    let in-loop-place = (back-put-sub-block put-sub-block-place) .before .before .before in
+    let in-loop-place = back-put-sub-block put-sub-block-place in
     let at-loop-place = in-loop-place .before in
     let number-in2-place = at-loop-place .before in
     let number-in-place = number-in2-place .before .before .before in
@@ -278,7 +273,6 @@ put-sub-blocks-spec =
     (tie.spec
     Inv-loop
     μ-loop
-    map4-requires
     width-of-requires
     sub-number-in
     number-in-requires

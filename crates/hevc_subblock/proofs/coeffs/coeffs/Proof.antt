@@ -21,6 +21,7 @@ use Rattle.hevc_rules.specs.CoeffsAgree.{accOf, coeffsOf, hides}
 use Rattle.hevc_residual.specs.LimitLaws.{stats-set}
 use Rattle.hevc_rules.specs.CoeffsLaws.{base-few, number-few, hidden-few, sb-few}
 use Rattle.hevc_subblock.specs.CoeffsLaws.{AnsweredBins, Answered, AnsweredLevels, Left, NoLevels, anyLevels, toFlag, toAlign, toSigns, toLevels, read-bins, read-two, read-align, read-signs, read-levels, start-fine, eight-few, signs-few}
+use Rattle.hevc_levels.specs.StoredLaws.{keeps-leveled}
 use Rattle.hevc_subblock.proofs.coeffs.coeffs.Statement.{statement}
 use Rattle.hevc_subblock.proofs.coeffs.coeffs.Tie as tie
 
@@ -165,7 +166,7 @@ greaters-refusal-requires : tie.Need-greaters-refusal-requires
 greaters-refusal-requires c κs = search needs
 
 returns : tie.Need-returns
-returns c = let d = c .before .before .before in let b = start1 d in (b .pre .4, b .pre .6, at-bins d .no _ _ (c .before .enum-told .given .1) (c .greaters-refusal .ensures))
+returns c = let d = c .before .before .before in let b = start1 d in (b .pre .4, b .pre .6, at-bins d .no _ _ (c .before .enum-told .given .1) (c .greaters-refusal .ensures), tt)
 
 greater2-number-requires : tie.Need-greater2-number-requires
 greater2-number-requires c κs = search needs
@@ -190,7 +191,7 @@ refusal-of-requires : tie.Need-refusal-of-requires
 refusal-of-requires c κs = search needs
 
 returns-2 : tie.Need-returns-2
-returns-2 c = let d = c .before .before .before in let b = start2 d in (b .pre .4, b .pre .6, at-two d .no _ _ (c .before .enum-told2 .given .1) (c .refusal-of .ensures))
+returns-2 c = let d = c .before .before .before in let b = start2 d in (b .pre .4, b .pre .6, at-two d .no _ _ (c .before .enum-told2 .given .1) (c .refusal-of .ensures), tt)
 
 aligns-requires : tie.Need-aligns-requires
 aligns-requires c κs = search needs
@@ -208,7 +209,7 @@ refusal-of-requires-2 : tie.Need-refusal-of-requires-2
 refusal-of-requires-2 c κs = search needs
 
 returns-3 : tie.Need-returns-3
-returns-3 c = let d = c .before .before .before in let b = start3 d in (b .pre .4, b .pre .6, at-align d .no _ _ (c .before .enum-told3 .given .1) (c .refusal-of2 .ensures))
+returns-3 c = let d = c .before .before .before in let b = start3 d in (b .pre .4, b .pre .6, at-align d .no _ _ (c .before .enum-told3 .given .1) (c .refusal-of2 .ensures), tt)
 
 hidden-requires : tie.Need-hidden-requires
 hidden-requires c κs = let b = start3 (c .before .before .before) in (b .pre .8, b .pre .9)
@@ -235,7 +236,7 @@ refusal-of-requires-3 : tie.Need-refusal-of-requires-3
 refusal-of-requires-3 c κs = search needs
 
 returns-4 : tie.Need-returns-4
-returns-4 c = let d = c .before .before .before in let b = start4 d in (b .pre .4, b .pre .6, at-signs d .no _ _ (c .before .enum-told4 .given .1) (c .refusal-of3 .ensures))
+returns-4 c = let d = c .before .before .before in let b = start4 d in (b .pre .4, b .pre .6, at-signs d .no _ _ (c .before .enum-told4 .given .1) (c .refusal-of3 .ensures), tt)
 
 sb-type-requires : tie.Need-sb-type-requires
 sb-type-requires c κs = search needs
@@ -269,6 +270,7 @@ read-levels-requires c κs =
       start-fine (a .p) (a .h) (spot (a .xs) (a .ys)) (a .list) (a .bytes .now) (a .ctxset) (a .s) (a .c) (a .x) (a .contexts .now) (a .block .now) (a .stats .now) (b .pre .9) (mask2 (flag4 d)) (carry2 (flag4 d)) (small2 (flag4 d)) (two4 d) (u .b .given .0 .0) (u .b .given .0 .1 .0) (flag4 d .flag-if .last .1 .1 .1 .0)
           (at-signs d .ok _ _ (u .b .given .1)) (n .result) (h .result) (t .result) (getD (a .stats .now) (t .result) 0) (k .result) (n .ensures) (h .ensures) (t .ensures) refl (k .ensures)
           (b .pre .8) (b .pre .10) (b .pre .6),
+      b .pre .11,
     )
 
 enum-known-l : tie.Need-enum-known-l
@@ -284,7 +286,7 @@ same-length : tie.Need-same-length
 same-length c = search needs
 
 returns-5 : tie.Need-returns-5
-returns-5 c = let d = c .before .before .before .before in (d .read-levels .ensures .0, start5 d .pre .6, at-levels d .no _ _ (c .before .enum-told5 .given .1) (c .leveled-refusal .ensures))
+returns-5 c = let d = c .before .before .before .before in (d .read-levels .ensures .0, start5 d .pre .6, at-levels d .no _ _ (c .before .enum-told5 .given .1) (c .leveled-refusal .ensures), tt)
 
 element-write-stats : tie.Need-element-write-stats
 element-write-stats c =
@@ -301,11 +303,12 @@ returns-6 c =
     let d = c .before .before .before .before in
     let b = start5 d in
     let u = c .before .l .given in
-    let k = at-levels d .ok _ _ (u .1) in
+    let k = at-levels d .ok _ _ _ (u .1) in
     let f = at-bins (call1 (flag5 d)) .ok _ _ (open1 (flag5 d) .g .given .1) in (
       d .read-levels .ensures .0,
       stats-set (b .args .stats .now) (sb5 d) (u .0 .0 .stat) (b .pre .6) (k .0 .stat),
       (record { carry = f .1; column = k .0 .column }, k .1),
+      keeps-leveled (b .args .p) (d .read-levels .result) _ _ _ (d .read-levels .last .1 .1 .1 .0) (d .read-levels .ensures .2) (u .1),
     )
 
 pub coeffs-spec : {M : Type 1} → statement M

@@ -1,0 +1,4 @@
+pub mod LevelsAgree
+pub mod LevelLaws
+pub mod StoredAgree
+pub mod StoredLaws

@@ -1,0 +1,4 @@
+pub mod GreaterPuts
+pub mod LevelsPuts
+pub mod SignsPuts
+pub mod CoeffsPuts
