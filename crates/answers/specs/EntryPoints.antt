@@ -8,9 +8,9 @@ use lib.IntN.{ℤ}
 use Rattle.bins.specs.declared.state.Engine.{Engine}
 use Rattle.cabac.specs.Entries as engine
 use Rattle.cabac.specs.Entries.{stateSays, decisionSays, binsSay, valuesRefusal, contextsAfter, statisticsAfter}
-use Rattle.cabac.specs.declared.engine.State.{State}
-use Rattle.cabac.specs.declared.engine.Decision.{Decision}
-use Rattle.cabac.specs.declared.engine.Bins.{Bins}
+use Rattle.cabac.specs.declared.answers.State.{State}
+use Rattle.cabac.specs.declared.answers.Decision.{Decision}
+use Rattle.cabac.specs.declared.answers.Bins.{Bins}
 use Rattle.hevc_residual.specs.declared.params.Params.{Params}
 use Rattle.hevc_residual.specs.declared.params.Rdpcm.{Rdpcm}
 use Rattle.hevc_residual.specs.Entries.{readPayload, readBins, writeBins}
@@ -20,8 +20,8 @@ use Rattle.hevc_reader.specs.EntriesAgree.{payloadRead, binsRead}
 use Rattle.hevc_writer.specs.declared.entries.Written.{Written}
 use Rattle.hevc_writer.specs.EntriesPuts.{binsWritten}
 use Rattle.hevc_plain.specs.Plain.{readPlain, readPlainBins, writePlain, plainRecord}
-use Rattle.hevc_plain.specs.declared.record.Made.{Made}
-use Rattle.hevc_plain.specs.Record.{madeSays}
+use Rattle.hevc_plain_checks.specs.declared.record.Made.{Made}
+use Rattle.hevc_plain_checks.specs.Record.{madeSays}
 use Rattle.hevc_cross.specs.Entries as scales
 use Rattle.hevc_scale.specs.EntriesAgree as scaled
 use Rattle.hevc_scale.specs.declared.entries.Read as scale-read
@@ -100,9 +100,9 @@ pub write-bins-plain : (p : Params) (stats : List ℕ) (block : List ℤ) (skip 
     → binsWritten r t m ≡ writePlain p stats block skip rdpcm room → binsWritten s t′ m′ ≡ writePlain p stats block skip rdpcm room → (r ≡ s) × (t ≡ t′) × (m ≡ m′)
 write-bins-plain p stats block skip rdpcm room r s t t′ m m′ x y = written-one r s t t′ m m′ (x ∙ sym y)
 
-pub plain-record : (log2 : ℕ) (luma : Bool) (scan : ℕ) (hiding skipAllowed lossless inter : Bool) (r s : Made)
+pub plain-params : (log2 : ℕ) (luma : Bool) (scan : ℕ) (hiding skipAllowed lossless inter : Bool) (r s : Made)
     → madeSays r ≡ plainRecord log2 luma scan hiding skipAllowed lossless inter → madeSays s ≡ plainRecord log2 luma scan hiding skipAllowed lossless inter → r ≡ s
-plain-record log2 luma scan hiding skipAllowed lossless inter r s x y = made-one r s (x ∙ sym y)
+plain-params log2 luma scan hiding skipAllowed lossless inter r s x y = made-one r s (x ∙ sym y)
 
 -- ---- scales
 pub read-scale : (l : List ℕ) (e : Engine) (contexts : List ℕ) (component : ℕ) (r s : scale-read.Read) (c c′ : List ℕ)

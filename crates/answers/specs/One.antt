@@ -7,12 +7,12 @@ use lib.IntN.{ℤ}
 use Rattle.bins.specs.Engine.{Decided, Drawn}
 use Rattle.cabac.specs.Numbers.{Answer, accepted, refused}
 use Rattle.cabac.specs.Entries.{stateSays, decisionSays, binsSay}
-use Rattle.cabac.specs.declared.engine.State.{State}
-use Rattle.cabac.specs.declared.engine.State.the-variants as ofState
-use Rattle.cabac.specs.declared.engine.Decision.{Decision}
-use Rattle.cabac.specs.declared.engine.Decision.the-variants as ofDecision
-use Rattle.cabac.specs.declared.engine.Bins.{Bins}
-use Rattle.cabac.specs.declared.engine.Bins.the-variants as ofBins
+use Rattle.cabac.specs.declared.answers.State.{State}
+use Rattle.cabac.specs.declared.answers.State.the-variants as ofState
+use Rattle.cabac.specs.declared.answers.Decision.{Decision}
+use Rattle.cabac.specs.declared.answers.Decision.the-variants as ofDecision
+use Rattle.cabac.specs.declared.answers.Bins.{Bins}
+use Rattle.cabac.specs.declared.answers.Bins.the-variants as ofBins
 use Rattle.hevc_residual.specs.Entries.{Found, FoundAt, PayloadRead, BinsRead, BinsWritten}
 use Rattle.hevc_block.specs.declared.block.Found as code
 use Rattle.hevc_reader.specs.declared.entries.Read.{Read}
@@ -23,9 +23,9 @@ use Rattle.hevc_reader.specs.EntriesAgree.{foundSeen, payloadRead, binsRead}
 use Rattle.hevc_writer.specs.declared.entries.Written.{Written}
 use Rattle.hevc_writer.specs.declared.entries.Written.the-variants as ofWritten
 use Rattle.hevc_writer.specs.EntriesPuts.{writtenSays, binsWritten}
-use Rattle.hevc_plain.specs.declared.record.Made.{Made}
-use Rattle.hevc_plain.specs.declared.record.Made.the-variants as ofMade
-use Rattle.hevc_plain.specs.Record.{madeSays}
+use Rattle.hevc_plain_checks.specs.declared.record.Made.{Made}
+use Rattle.hevc_plain_checks.specs.declared.record.Made.the-variants as ofMade
+use Rattle.hevc_plain_checks.specs.Record.{madeSays}
 use Rattle.hevc_cross.specs.Entries as scales
 use Rattle.hevc_scale.specs.EntriesAgree as scaled
 use Rattle.hevc_scale.specs.declared.entries.Read as scale-read

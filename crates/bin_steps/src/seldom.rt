@@ -1,10 +1,10 @@
 // Steps that are taken seldom, by a call of their own: those that readers are made of are then short enough to be compiled in place.
-use bin_sources::list;
-use bin_sources::payload;
 use bins::places::SourcePlace;
 use bins::state::Interval;
 use bins::state::Step;
 use bins::state::step_of;
+use list_source::list;
+use payload_source::payload;
 ghost use mathlib.Core.Path.{_≡_};
 ghost use Prim.Native.Nat.{_≤_};
 ghost use Rattle.bins.specs.Sources.{Readable, stepOfBits, bitsFrom};

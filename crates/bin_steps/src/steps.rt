@@ -1,11 +1,11 @@
 // A step from whichever source a reader reads: a bin list, or a payload by the arithmetic engine.
 use crate::seldom;
-use bin_sources::list;
-use bin_sources::payload;
 use bins::state::Interval;
 use bins::state::Step;
 use bins::state::step_of;
 use bins::tags::BYPASS;
+use list_source::list;
+use payload_source::payload;
 ghost use mathlib.Core.Path.{_≡_};
 ghost use Prim.Native.Nat.{_≤_, _<_};
 ghost use Rattle.tables.specs.Decisions.{decisions};

@@ -57,7 +57,7 @@ tag-picks c false none k = rw (entry-is (2 * c + 0))
 tag-picks c true none k =
     rw (entry-not (low (2 * c + 1)) (high (2 * c + 1)) (2 * c + 0) (λ q. omega arith), entry-is (2 * c + 1))
 
-also-ok : {A : Type 0} (x : ℕ) (o : Written A) (a : A) (l : List ℕ) → also x o ≡ Written.ok a l
+pub also-ok : {A : Type 0} (x : ℕ) (o : Written A) (a : A) (l : List ℕ) → also x o ≡ Written.ok a l
     → (l′ : List ℕ) × (o ≡ Written.ok a l′) × (l ≡ entry x l′)
 unfolding also
 also-ok x (Written.ok a′ l′) a l q = (l′, cc, cc)

@@ -8,8 +8,8 @@ use Rattle.bins.specs.declared.state.Engine.{Engine}
 use Rattle.bins.specs.Engine.{Decided, Drawn, bitNo}
 use Rattle.cabac.specs.Numbers.{Answer, accepted, refused, _orElse_, payloadRefusal, stateRefusal}
 use Rattle.cabac.specs.Entries.{restOf}
-use Rattle.cabac.specs.declared.engine.State.{State}
-use Rattle.cabac.specs.declared.engine.State.the-variants as ofState
+use Rattle.cabac.specs.declared.answers.State.{State}
+use Rattle.cabac.specs.declared.answers.State.the-variants as ofState
 use Rattle.bulmegart.specs.declared.records.EngineState.{EngineState}
 use Rattle.bulmegart_engine.specs.declared.engine.StateAnswer.{StateAnswer}
 use Rattle.bulmegart_engine.specs.declared.engine.DecisionAnswer.{DecisionAnswer}

@@ -11,8 +11,8 @@ use lib.Dec.{eqb}
 use borrow.Author.Tests.{ne-eqb}
 use Rattle.bins.specs.declared.state.Engine.{Engine}
 use Rattle.bins.specs.Engine.{alignedByte, byteAligned}
-use Rattle.cabac.specs.declared.engine.State.{State}
-use Rattle.cabac.specs.declared.engine.State.the-variants as ofState
+use Rattle.cabac.specs.declared.answers.State.{State}
+use Rattle.cabac.specs.declared.answers.State.the-variants as ofState
 use Rattle.cabac.specs.Numbers.{Answer, accepted, refused, _orElse_, unless, payloadRefusal, stateRefusal}
 use Rattle.cabac.specs.NumberLaws.{or-else-assoc, or-else-first, or-else-zero}
 use Rattle.cabac.specs.Entries.{stateSays, byteAlign, restOf}

@@ -3,7 +3,7 @@ use bulmegart::records::EngineState;
 use bulmegart::records::engine_of;
 use bulmegart::records::state_handed;
 use bulmegart::records::state_of;
-use cabac::engine::State;
+use cabac::answers::State;
 use cabac_engine::engine::align_bypass;
 use cabac_engine::engine::byte_align;
 use cabac_engine::engine::rest;

@@ -5,7 +5,7 @@ use bulmegart::records::engine_of;
 use bulmegart::records::state_handed;
 use bulmegart::records::state_of;
 use bulmegart_blocks::lists::WriteAnswer;
-use h264_block::contexts::init_pairs;
+use h264_contexts::contexts::init_pairs;
 use h264_reader::entries::Read;
 use h264_reader::entries::ReadList;
 use h264_reader::entries::read_bins;

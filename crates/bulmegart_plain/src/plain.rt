@@ -11,14 +11,14 @@ use bulmegart::records::or_else;
 use bulmegart::records::params_of;
 use bulmegart_blocks::blocks::BlockAnswer;
 use bulmegart_blocks::blocks::block_answer;
-use hevc_plain::record::Made;
-use hevc_plain::record::plain_record;
+use hevc_plain_checks::record::Made;
+use hevc_plain_checks::record::plain_params;
 use hevc_plain_coding::entries::residual_coding_plain;
 use hevc_reader::entries::Read;
 use hevc_residual::params::Params;
 ghost use mathlib.Core.Path.{_≡_};
 ghost use Rattle.bulmegart_blocks.specs.Blocks.{blockLeft};
-ghost use Rattle.hevc_plain.specs.Record.{madeSays};
+ghost use Rattle.hevc_plain_checks.specs.Record.{madeSays};
 ghost use Rattle.bulmegart_plain.specs.Plain.{readPlainBlock, paramsGiven, recordFlags, recordGiven, plainParams};
 
 // A plain record, all zeros after a refusal.
@@ -133,7 +133,7 @@ pub extern "C" fn bulmegart_plain_params(
     if n != 0 {
         return params_answer(Made::Refused(n));
     }
-    let r = plain_record(
+    let r = plain_params(
         log2,
         is_set(luma),
         scan,

@@ -5,12 +5,12 @@ use mathlib.Core.Bool.{Bool, cond}
 use lib.ListN.{length, drop, replicate}
 use lib.Dec.{eqb}
 use Rattle.bins.specs.declared.state.Engine.{Engine}
-use Rattle.cabac.specs.declared.engine.State.{State}
-use Rattle.cabac.specs.declared.engine.State.the-variants as ofState
-use Rattle.cabac.specs.declared.engine.Decision.{Decision}
-use Rattle.cabac.specs.declared.engine.Decision.the-variants as ofDecision
-use Rattle.cabac.specs.declared.engine.Bins.{Bins}
-use Rattle.cabac.specs.declared.engine.Bins.the-variants as ofBins
+use Rattle.cabac.specs.declared.answers.State.{State}
+use Rattle.cabac.specs.declared.answers.State.the-variants as ofState
+use Rattle.cabac.specs.declared.answers.Decision.{Decision}
+use Rattle.cabac.specs.declared.answers.Decision.the-variants as ofDecision
+use Rattle.cabac.specs.declared.answers.Bins.{Bins}
+use Rattle.cabac.specs.declared.answers.Bins.the-variants as ofBins
 use Rattle.bins.specs.declared.state.Taken.{Taken}
 use Rattle.bins.specs.declared.fetch.Drawn as fetch
 use Rattle.bins.specs.Bits.{ends, added}

@@ -1,2 +1,2 @@
-// What every entry point over a payload begins and ends with.
-pub mod engine; // engine.rt: what is refused of payload and state, the state opened and settled
+// The numbers and the order of document 01 for what is read from a payload, and the answers of the entry points.
+pub mod answers; // answers.rt: the answers of the entry points

@@ -1,16 +1,16 @@
 // Bins and bits by the arithmetic engine of H.265 (CABAC), over payload and state.
-use bin_sources::payload;
 use bins::state::Engine;
 use bits::fetch::fetch;
-use cabac::engine::Bins;
-use cabac::engine::Decision;
-use cabac::engine::behind;
-use cabac::engine::bins_of;
-use cabac::engine::count_refusal;
-use cabac::engine::open;
-use cabac::engine::refusal;
-use cabac::engine::settle;
+use cabac::answers::Bins;
+use cabac::answers::Decision;
+use cabac_state::engine::behind;
+use cabac_state::engine::bins_of;
+use cabac_state::engine::count_refusal;
+use cabac_state::engine::open;
+use cabac_state::engine::refusal;
+use cabac_state::engine::settle;
 use decision_rows::decision_entry;
+use payload_source::payload;
 ghost use mathlib.Core.Path.{_≡_};
 ghost use Rattle.cabac.specs.Entries.{decisionSays, binsSay};
 ghost use Rattle.cabac.specs.Entries as entries;

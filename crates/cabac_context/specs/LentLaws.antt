@@ -7,8 +7,8 @@ use Rattle.bins.specs.declared.state.Engine.{Engine}
 use Rattle.bins.specs.Engine.{Decided}
 use Rattle.cabac.specs.Numbers.{Answer}
 use Rattle.cabac.specs.Entries.{decision, decisionSays}
-use Rattle.cabac.specs.declared.engine.Decision.{Decision}
-use Rattle.cabac.specs.declared.engine.Decision.the-variants as ofDecision
+use Rattle.cabac.specs.declared.answers.Decision.{Decision}
+use Rattle.cabac.specs.declared.answers.Decision.the-variants as ofDecision
 use Rattle.cabac_context.specs.declared.context.Bit.the-variants as ofBit
 use Rattle.cabac_context.specs.Lent.{lentSays, lentOf, onLent}
 

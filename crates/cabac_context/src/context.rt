@@ -1,6 +1,6 @@
 // A context that is lent: a decision reads its packed byte, and stores the next one.
 use bins::state::Engine;
-use cabac::engine::Decision;
+use cabac::answers::Decision;
 use cabac_bins::decode;
 ghost use mathlib.Core.Path.{_≡_};
 ghost use Rattle.cabac_context.specs.Lent.{lentSays, onLent};

@@ -1,15 +1,15 @@
 // The arithmetic engine (H.265 9.3.4.3): the entry points over a payload and a state.
 // Each takes anything: what document 01 does not accept is answered by its number, and the caller's state stands.
-use bin_sources::payload;
 use bins::places::BitPlace;
 use bins::places::aligned;
 use bins::places::first_bit;
 use bins::state::Engine;
-use cabac::engine::State;
-use cabac::engine::behind;
-use cabac::engine::payload_refusal;
-use cabac::engine::refusal;
-use cabac::engine::started_at;
+use cabac::answers::State;
+use cabac_state::engine::behind;
+use cabac_state::engine::payload_refusal;
+use cabac_state::engine::refusal;
+use cabac_state::engine::started_at;
+use payload_source::payload;
 ghost use mathlib.Core.Path.{_≡_};
 ghost use Rattle.cabac.specs.Entries.{stateSays};
 ghost use Rattle.cabac.specs.Entries as entries;

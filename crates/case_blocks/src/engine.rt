@@ -10,9 +10,9 @@
 //     restart payload [state] => answer state
 //     alignbypass payload [state] => answer state: alignment of the range, as before escape data
 use bins::state::Engine;
-use cabac::engine::Bins;
-use cabac::engine::Decision;
-use cabac::engine::State;
+use cabac::answers::Bins;
+use cabac::answers::Decision;
+use cabac::answers::State;
 use cabac_bins::decode::decode_bin;
 use cabac_bins::decode::decode_bypass;
 use cabac_bins::decode::decode_bypass_bits;

@@ -4,7 +4,7 @@ use crate::record::which;
 use bins::places::BitPlace;
 use bins::state::Engine;
 use bytes::scan::find;
-use cabac::engine::State;
+use cabac::answers::State;
 use cabac_engine::engine::start;
 use hevc_residual::params::Params;
 use hevc_residual::params::Rdpcm;

@@ -1,15 +1,13 @@
 // Which record has which keys, and is answered by which function. A kind that is added is a rule, a word and a line here, and a function.
-use crate::h264;
-use crate::packs;
 use crate::scales;
 use crate::slices;
-use crate::trays;
 use crate::values;
 use bins::state::Engine;
 use cabac_engine::engine::start;
 use case_blocks::blocks;
 use case_blocks::engine;
 use case_blocks::writes;
+use case_h264::h264;
 use case_text::answer;
 use case_text::answer::NONE;
 use case_text::given;
@@ -21,6 +19,8 @@ use case_text::record::first;
 use case_text::record::is_by;
 use case_text::record::value;
 use case_text::record::which;
+use case_trays::packs;
+use case_trays::trays;
 use check::same;
 use text::lines::part;
 use text_fields::fields::Octets;

@@ -5,9 +5,9 @@
 // It begins by a start on the payload, or by a restart from a state. Contexts are 199. An operation is two bytes, the high one first:
 // 2·context + bin, or fffe, ffff for bypass, or fffc, fffd for terminate. The bins are counted up to one that is another, or is refused.
 use bins::state::Engine;
-use cabac::engine::Bins;
-use cabac::engine::Decision;
-use cabac::engine::State;
+use cabac::answers::Bins;
+use cabac::answers::Decision;
+use cabac::answers::State;
 use cabac_bins::decode::decode_bin;
 use cabac_bins::decode::decode_bypass;
 use cabac_bins::decode::decode_bypass_bits;

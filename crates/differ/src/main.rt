@@ -6,7 +6,7 @@ mod words; // words.rt: the judgement in words
 use bins::state::Engine;
 use bins::tags::CONTEXTS;
 use book_lines::form::refusal;
-use cabac::engine::State;
+use cabac::answers::State;
 use cabac_engine::engine::start;
 use cabac_init::contexts::init_contexts;
 use frame::fields::flags_refusal;

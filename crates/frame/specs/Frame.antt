@@ -6,6 +6,7 @@ use lib.Dec.{leb, eqb}
 use lib.ListN.{take, drop, getD}
 use Rattle.bins.specs.Tags.{contextCount}
 use Rattle.hevc_residual.specs.declared.params.Params.{Params}
+use Rattle.hevc_residual.specs.AllOff.{allOff}
 
 abbrev pub frontBytes : ℕ
 frontBytes = 138
@@ -22,22 +23,7 @@ payloadOf bytes = drop frontBytes bytes
 -- log2 size, luma (1) or chroma (0), scan, bit depth, behind the QP hiding (0 or 1); other options are off
 unfoldable pub paramsOf : List ℕ → Params
 paramsOf bytes =
-    record {
-      log2 = byteOf bytes 0;
-      luma = eqb (byteOf bytes 1) 1;
-      scan = byteOf bytes 2;
-      depth = byteOf bytes 3;
-      hiding = eqb (byteOf bytes 5) 1;
-      «skip_allowed» = false;
-      lossless = false;
-      persistent = false;
-      «skip_context» = false;
-      «explicit_rdpcm» = false;
-      «implicit_rdpcm» = false;
-      inter = false;
-      aligning = false;
-      extended = false;
-    }
+    allOff (byteOf bytes 0) (eqb (byteOf bytes 1) 1) (byteOf bytes 2) (byteOf bytes 3) (eqb (byteOf bytes 5) 1)
 
 abbrev pub quantiserOf : List ℕ → ℕ
 quantiserOf bytes = byteOf bytes 4

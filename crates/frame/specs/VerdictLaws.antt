@@ -12,13 +12,14 @@ use borrow.Author.Tests.{le-leb, lt-leb, eq-eqb}
 use Rattle.bins.specs.declared.state.Engine.{Engine}
 use Rattle.bins.specs.Tags.{contextCount}
 use Rattle.cabac.specs.Numbers.{Answer, accepted, refused, _orElse_, payloadRefusal}
-use Rattle.cabac.specs.declared.engine.State.{State}
-use Rattle.cabac.specs.declared.engine.State.the-variants as ofState
+use Rattle.cabac.specs.declared.answers.State.{State}
+use Rattle.cabac.specs.declared.answers.State.the-variants as ofState
 use Rattle.cabac.specs.Entries.{start, stateSays, valuesRefusal, contextsAfter, statisticsAfter}
 use Rattle.cabac.specs.Contexts.{initialAll}
 use Rattle.hevc_residual.specs.declared.params.Params.{Params}
 use Rattle.hevc_residual.specs.Numbers.{parameterRefusal}
 use Rattle.hevc_residual.specs.Entries.{FoundAt, PayloadRead, readPayload}
+use Rattle.hevc_residual.specs.AllOff.{allOff}
 use Rattle.hevc_block.specs.declared.block.Found.{Found}
 use Rattle.hevc_reader.specs.declared.entries.Read.{Read}
 use Rattle.hevc_reader.specs.declared.entries.Read.the-variants as ofRead
@@ -33,22 +34,7 @@ pub tail-is : (bytes : List ℕ) → take (length bytes - 138) (drop 138 bytes) 
 tail-is bytes = take-all (length bytes - 138) (drop 138 bytes) (omega (arith, length-drop 138 bytes))
 
 pub params-is : (bytes : List ℕ) (a b c : ℕ) → a ≡ getD bytes 0 0 → b ≡ getD bytes 2 0 → c ≡ getD bytes 3 0
-    → record {
-      log2 = a;
-      luma = eqb (getD bytes 1 0) 1;
-      scan = b;
-      depth = c;
-      hiding = eqb (getD bytes 5 0) 1;
-      «skip_allowed» = false;
-      lossless = false;
-      persistent = false;
-      «skip_context» = false;
-      «explicit_rdpcm» = false;
-      «implicit_rdpcm» = false;
-      inter = false;
-      aligning = false;
-      extended = false;
-    } ≡ paramsOf bytes
+    → allOff a (eqb (getD bytes 1 0) 1) b c (eqb (getD bytes 5 0) 1) ≡ paramsOf bytes
 unfolding paramsOf
 params-is bytes a b c p q r = rw (p, q, r)
 

@@ -1,6 +1,7 @@
 // A frame's fields: 8 bytes for log2 size, luma (1) or chroma (0), scan, bit depth, QP, hiding (0 or 1) and the payload's length, then 130 initial
 // values, then the payload.
 use hevc_residual::params::Params;
+use hevc_residual::params::all_off;
 ghost use mathlib.Core.Path.{_≡_};
 ghost use Prim.Native.Nat.{_≤_};
 ghost use lib.ListN.{length};
@@ -22,22 +23,7 @@ pub fn params(bytes: &[u8]) -> Params
     let scan = number(bytes[2]);
     let depth = number(bytes[3]);
     let hiding = bytes[5] == 1;
-    Params {
-        log2,
-        luma,
-        scan,
-        depth,
-        hiding,
-        skip_allowed: false,
-        lossless: false,
-        persistent: false,
-        skip_context: false,
-        explicit_rdpcm: false,
-        implicit_rdpcm: false,
-        inter: false,
-        aligning: false,
-        extended: false,
-    }
+    all_off(log2, luma, scan, depth, hiding)
 }
 
 // 4: a luma or hiding byte above 1.

@@ -1,7 +1,5 @@
 pub mod Layout
 pub mod Contexts
-pub mod PairLaws
-pub mod NumberLaws
 pub mod Block
 pub mod Refusal
 pub mod Entries
@@ -14,3 +12,4 @@ pub mod BlockNumbers
 pub mod Exact
 pub mod Local
 pub mod Cases
+pub mod BlockAgree

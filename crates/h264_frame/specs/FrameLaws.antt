@@ -16,12 +16,12 @@ use borrow.Author.Tests.{le-leb, lt-leb, lt-ltb, le-ltb, leb-true, ltb-true, ltb
 use Rattle.tables.specs.Table.{le-below}
 use Rattle.bins.specs.declared.state.Engine.{Engine}
 use Rattle.cabac.specs.Numbers.{Answer, accepted, refused}
-use Rattle.cabac.specs.declared.engine.State.{State}
-use Rattle.cabac.specs.declared.engine.State.the-variants as ofState
+use Rattle.cabac.specs.declared.answers.State.{State}
+use Rattle.cabac.specs.declared.answers.State.the-variants as ofState
 use Rattle.cabac.specs.Entries.{start, stateSays}
 use Rattle.tree_shapes.specs.SignLaws.{minus-is, plus-is}
 use Rattle.h264_block.specs.Contexts.{within, initialAll, allWithin, pairsRefusal, contextsAfter}
-use Rattle.h264_block.specs.PairLaws.{pairs-fine}
+use Rattle.h264_contexts.specs.PairLaws.{pairs-fine}
 use Rattle.h264_block.specs.Entries.{FoundAt, PayloadRead, readPayload}
 use Rattle.h264_reader.specs.declared.entries.Read.{Read}
 use Rattle.h264_reader.specs.declared.entries.Read.the-variants as ofRead

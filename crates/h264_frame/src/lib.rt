@@ -1,8 +1,8 @@
 // One block of H.264 as a frame: QP, the payload's length in two bytes, high first, 40 pairs m, n as signed bytes, the payload.
 use bins::state::Engine;
-use cabac::engine::State;
+use cabac::answers::State;
 use cabac_engine::engine::start;
-use h264_block::contexts::init_pairs;
+use h264_contexts::contexts::init_pairs;
 use h264_reader::entries::Read;
 use h264_reader::entries::residual_block;
 ghost use mathlib.Core.Path.{_≡_};

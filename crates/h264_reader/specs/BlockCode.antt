@@ -22,7 +22,7 @@ use Rattle.h264_block.specs.Block.{S, levelAt, placesS, magnitudeS, levelsS, bl
 use Rattle.trees.specs.Reached.{each-run}
 use Rattle.h264_block.specs.BlockBounds.{block-each}
 use Rattle.h264_block.specs.Entries.{blockWith, cleared}
-use Rattle.h264_reader.specs.BlockAgree.{marked, SaysPlaces, SaysLevels, SaysBlock, SaysInto}
+use Rattle.h264_block.specs.BlockAgree.{marked, SaysPlaces, SaysLevels, SaysBlock, SaysInto}
 
 -- ---- places, then levels
 filled : List ℕ → S (List ℤ)

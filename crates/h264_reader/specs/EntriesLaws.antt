@@ -37,7 +37,7 @@ use Rattle.h264_block.specs.EntryLaws.{block-passed}
 use Rattle.h264_block.specs.Entries.{PayloadRead, BinsRead, blockRefusal, blockWith, cleared, readByEngine, readPayloadBy, readPayload, readFromList, readBinsBy, readBins}
 use Rattle.h264_reader.specs.declared.entries.Read.the-variants as read
 use Rattle.h264_reader.specs.declared.entries.ReadList.the-variants as readlist
-use Rattle.h264_reader.specs.BlockAgree.{SaysInto}
+use Rattle.h264_block.specs.BlockAgree.{SaysInto}
 use Rattle.h264_reader.specs.EntriesAgree.{payloadRead, binsRead, payloadChecks, stepNo}
 
 -- ---- 3, of contexts

@@ -1,8 +1,8 @@
 // The whole block: its significant places, then their levels.
-use crate::levels::levels;
-use crate::places::places;
 use bins::state::Interval;
 use bins::state::Step;
+use h264_levels::levels::levels;
+use h264_places::places::places;
 use tree_shapes::levels::greatest;
 ghost use mathlib.Core.Path.{_≡_};
 ghost use Prim.Native.Nat.{_≤_};
@@ -11,7 +11,7 @@ ghost use lib.IntN.{pos};
 ghost use Rattle.tables.specs.Decisions.{decisions};
 ghost use Rattle.trees.specs.Agree.{Reads};
 ghost use Rattle.h264_block.specs.Entries.{blockWith};
-ghost use Rattle.h264_reader.specs.BlockAgree.{SaysBlock, SaysInto};
+ghost use Rattle.h264_block.specs.BlockAgree.{SaysBlock, SaysInto};
 use tables::decision_table;
 
 // Into places that are zero.

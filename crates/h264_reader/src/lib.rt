@@ -1,6 +1,3 @@
 // The code that reads H.264's block, from a payload or a bin list.
 pub mod block; // block.rt: the whole block
 pub mod entries; // entries.rt: the two entry points
-pub mod levels; // levels.rt: the levels at the significant places
-pub mod magnitude; // magnitude.rt: a magnitude
-pub mod places; // places.rt: the significant places

@@ -20,7 +20,7 @@ use Rattle.h264_block.specs.EntryLaws.{block-passes, writes-short, writes-refus
 use Rattle.h264_block.specs.Exact as exact
 use Rattle.h264_writer.specs.declared.entries.Written as code
 use Rattle.h264_writer.specs.declared.entries.Written.the-variants as listed
-use Rattle.h264_writer.specs.LevelPuts.{BlockPut}
+use Rattle.h264_pen.specs.LevelPuts.{BlockPut}
 
 -- ---- the answer with document 01's numbers
 abbrev pub writtenSays : code.Written → Answer ℕ

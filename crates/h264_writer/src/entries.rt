@@ -1,6 +1,6 @@
 // The entry point: a block as bins. It takes anything: what is not accepted is answered by its number.
-use crate::levels::put_block;
 use crate::refusal::write_refusal;
+use h264_pen::levels::put_block;
 use pen::room::Pen;
 ghost use mathlib.Core.Path.{_≡_};
 ghost use Rattle.h264_block.specs.Entries.{writeBins};

@@ -25,6 +25,7 @@ use Rattle.hevc_residual.specs.Residual.{residual}
 use Rattle.hevc_residual.specs.Refusal.{writeRefusal}
 use Rattle.hevc_residual.specs.Numbers.{withinLimits, parameterRefusal, contextsRefusal, statisticRefusal, statisticsRefusal, roomRefusal}
 use Rattle.hevc_residual.specs.Entries as block
+use Rattle.hevc_residual.specs.AllOff.{allOff}
 use Rattle.hevc_cross.specs.Scale.{scaleS, isScale}
 use Rattle.hevc_cross.specs.Entries.{componentRefusal, scaleRefusal, PayloadRead, readByEngine, readPayloadBy, readPayload, readFromList, readBinsBy, readBins, BinsWritten, writeListBy, writeList, writeBinsBy, writeBins}
 
@@ -139,22 +140,7 @@ contexts = replicate contextCount 64
 
 plain : Params
 plain =
-    record {
-      log2 = 2;
-      luma = true;
-      scan = 0;
-      depth = 8;
-      hiding = false;
-      «skip_allowed» = false;
-      lossless = false;
-      persistent = false;
-      «skip_context» = false;
-      «explicit_rdpcm» = false;
-      «implicit_rdpcm» = false;
-      inter = false;
-      aligning = false;
-      extended = false;
-    }
+    allOff 2 true 0 8 false
 
 passes : Case → Bool
 unfolding sameℤ sameList sameState passing numberOf changed lent contexts plain

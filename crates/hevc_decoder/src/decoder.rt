@@ -2,8 +2,8 @@
 // Each method takes it apart and calls the entry point on payload and state; the answer has the state behind it, for the next decoder.
 use bins::state::Engine;
 use bins::tags::CONTEXTS;
-use cabac::engine::Bins;
-use cabac::engine::State;
+use cabac::answers::Bins;
+use cabac::answers::State;
 use cabac_bins::decode;
 use cabac_context::context;
 use cabac_context::context::Bit;

@@ -26,6 +26,7 @@ use Rattle.hevc_residual.specs.Remainder.{remainderS}
 use Rattle.hevc_residual.specs.Residual.{residual}
 use Rattle.hevc_residual.specs.Numbers.{withinLimits, parameterRefusal, contextsRefusal, statisticRefusal, statisticsRefusal}
 use Rattle.hevc_residual.specs.Entries.{readByEngine, readPayloadBy, readPayload}
+use Rattle.hevc_residual.specs.AllOff.{allOff}
 use Rattle.hevc_tray.specs.Tray.{onBlock, tray, countRefusal, recordsRefusal, roomsRefusal, readTrayBy, readTray}
 use Rattle.hevc_tray.specs.Rows.{foundRows}
 use Rattle.hevc_depends.specs.Reached.{reachedBy, reached, drewPast}
@@ -34,22 +35,7 @@ use Rattle.hevc_depends.specs.TrayDepends.{TrayAsked, TrayShown, tray-de
 
 pub block4 : Params
 block4 =
-    record {
-      log2 = 2;
-      luma = true;
-      scan = 0;
-      depth = 8;
-      hiding = false;
-      «skip_allowed» = false;
-      lossless = false;
-      persistent = false;
-      «skip_context» = false;
-      «explicit_rdpcm» = false;
-      «implicit_rdpcm» = false;
-      inter = false;
-      aligning = false;
-      extended = false;
-    }
+    allOff 2 true 0 8 false
 
 abbrev pub one : List ℕ
 one = 0xc9 ∷ 0x62 ∷ 0x0f ∷ 0xc0 ∷ []

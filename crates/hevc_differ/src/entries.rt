@@ -1,7 +1,7 @@
 // Two payloads, read from one state: can the block depend on what differs between them? It takes anything and changes nothing.
 use bins::state::Engine;
 use bins::tags::CONTEXTS;
-use cabac::engine::payload_refusal;
+use cabac_state::engine::payload_refusal;
 use differs::payloads::first_difference;
 use hevc_reached::entries::reached;
 use hevc_reader::entries::payload_checks;

@@ -83,11 +83,11 @@ fn last_prefix(
     prefix(list, table, contexts, first + 15, log2 - 2, most, bytes, x)
 }
 
-// Chroma's context of a flag stands behind luma's.
-pub fn in_chroma(luma: bool) -> usize
-    ensures { λ r. ⌜ r ≡ inChroma luma 1 ⌝ }
+// Chroma's contexts of a syntax element stand n behind luma's.
+pub fn in_chroma(luma: bool, n: usize) -> usize
+    ensures { λ r. ⌜ r ≡ inChroma luma n ⌝ }
 {
-    if luma { 0 } else { 1 }
+    if luma { 0 } else { n }
 }
 
 // Whether transform_skip_flag is coded, and explicit_rdpcm_flag.
@@ -138,7 +138,7 @@ pub fn read_head(
     requires { ⌜ Reads list (now bytes) x (now contexts) × (2 ≤ p .log2) × (p .log2 ≤ 5) × (now table ≡ decisions) ⌝ }
     ensures { λ r. ⌜ SaysHead r (now (contexts .exit)) (from list (now (bytes .entry)) (headS p (outerOf p) (innerOf p)) x (now (contexts .entry))) ⌝ }
 {
-    let chroma = in_chroma(p.luma);
+    let chroma = in_chroma(p.luma, 1);
     let f = flag_if(skip_coded(p), list, table, contexts, 114 + chroma, bytes, x);
     let Step::Bin(skip, x1) = f else {
         return Headed::Refused(refusal_of(f));

@@ -2,7 +2,7 @@
 // block, which after 7, 8 and 13 is zeros.
 use bins::state::Engine;
 use bins::tags::CONTEXTS;
-use cabac::engine::payload_refusal;
+use cabac_state::engine::payload_refusal;
 use hevc_counts::counts::count_all;
 use hevc_counts::counts::form_refusal;
 use hevc_reader::entries::Read;

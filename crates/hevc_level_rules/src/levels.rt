@@ -5,6 +5,7 @@ use hevc_residual::params::Params;
 use hevc_rules::levels::Base;
 use hevc_rules::levels::Cell;
 use hevc_rules::levels::Going;
+use tree_shapes::levels::larger;
 ghost use Prim.Native.Nat.{_-_, _<_, max, _≤_};
 ghost use Rattle.hevc_rules.specs.LevelsAgree.{Based, seenNow, Fine, behindOf, Site, Lies};
 ghost use mathlib.Core.Path.{_≡_};
@@ -45,12 +46,6 @@ pub fn base_of(bins: u32, mask: u32, seen: bool, greater2: bool) -> Base
         level: 2,
         more: false,
     }
-}
-
-fn larger(a: u32, b: u32) -> u32
-    ensures { λ r. ⌜ r ≡ max a b ⌝ }
-{
-    if a < b { b } else { a }
 }
 
 fn less_one(n: u32) -> u32

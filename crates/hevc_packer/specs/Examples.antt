@@ -18,6 +18,7 @@ use Rattle.hevc_residual.specs.Head.{leastOf, lastPrefix, groupsS, headS}
 use Rattle.hevc_residual.specs.Remainder.{remainderS}
 use Rattle.hevc_residual.specs.Residual.{residual}
 use Rattle.hevc_residual.specs.Numbers.{withinLimits, parameterRefusal, contextsRefusal, statisticRefusal, statisticsRefusal}
+use Rattle.hevc_residual.specs.AllOff.{allOff}
 use Rattle.packing.specs.Pack.{kindOf, entriesOf, encoded, ctxAfter, packedBin, packedEntry, packed, octets, filled, flushed, payloadOf}
 use Rattle.packing.specs.PutBits.{Bits, noBits, wrote, stepsBegun, stepping, repeated, putBit, renormOnce, renormFor, stepDecision, bypassBy, stepBypass, stepFlush, stepBin, stepEntry, stepAll}
 use Rattle.packing.specs.Entries.{payloadFrom, packIntoBy, packInto, packList, packTree}
@@ -30,22 +31,7 @@ contexts = replicate contextCount 64
 -- 4x4 luma, scan 0, depth 8, all options off
 plain : Params
 plain =
-    record {
-      log2 = 2;
-      luma = true;
-      scan = 0;
-      depth = 8;
-      hiding = false;
-      «skip_allowed» = false;
-      lossless = false;
-      persistent = false;
-      «skip_context» = false;
-      «explicit_rdpcm» = false;
-      «implicit_rdpcm» = false;
-      inter = false;
-      aligning = false;
-      extended = false;
-    }
+    allOff 2 true 0 8 false
 
 -- level 1 at (0,0); level -1; level 4
 one : List ℕ

@@ -1,4 +1,7 @@
 // What stands before the sub-blocks: transform_skip_flag, explicit RDPCM, the last significant position.
+use crate::shapes::put_bits;
+use crate::shapes::put_flag_if;
+use crate::shapes::put_prefix;
 use hevc_head::head::Head;
 use hevc_head::head::in_chroma;
 use hevc_head::head::least;
@@ -8,9 +11,6 @@ use hevc_head::head::suffix_bits;
 use hevc_residual::params::Params;
 use hevc_residual::params::Rdpcm;
 use pen::room::Pen;
-use pen::shapes::put_bits;
-use pen::shapes::put_flag_if;
-use pen::shapes::put_prefix;
 ghost use mathlib.Core.Path.{_≡_};
 ghost use mathlib.Core.Bool.{cond};
 ghost use Prim.Native.Nat.{ℕ, _+_, _*_, _-_, _^_, _≤_, _<_};
@@ -122,7 +122,7 @@ pub fn put_head(room: &mut [u8], pen: Pen, p: Params, h: Head) -> Pen
     requires { ⌜ (2 ≤ p .log2) × (p .log2 ≤ 5) × (h .x < 2 ^ p .log2) × (h .y < 2 ^ p .log2) × Codable p (h .skip) (h .rdpcm) ⌝ }
     ensures { λ r. ⌜ ((w : Wanted) → w .skip ≡ h .skip → w .rdpcm ≡ h .rdpcm → lastWanted p (outerOf p) (innerOf p) w (area p) ≡ spot (h .x) (h .y) → Wrote (headS p (outerOf p) (innerOf p)) (done (headOf h)) w (sheet (now (room .entry)) pen) (sheet (now (room .exit)) r)) ⌝ }
 {
-    let chroma = in_chroma(p.luma);
+    let chroma = in_chroma(p.luma, 1);
     let rdpcm = h.rdpcm;
     let explicit = is_explicit(rdpcm);
     let a = put_flag_if(room, pen, skip_coded(p), 114 + chroma, h.skip);

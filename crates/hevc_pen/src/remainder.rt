@@ -1,12 +1,12 @@
 // coeff_abs_level_remaining.
+use crate::shapes::put_bits;
+use crate::shapes::put_ones;
+use exp_golomb::eg_count;
+use exp_golomb::eg_rest;
 use hevc_remainder::remainder::escape_length;
 use hevc_remainder::remainder::range_bits;
 use hevc_residual::params::Params;
-use pen::remainder::eg_count;
-use pen::remainder::eg_rest;
 use pen::room::Pen;
-use pen::shapes::put_bits;
-use pen::shapes::put_ones;
 ghost use mathlib.Core.Path.{_≡_};
 ghost use Prim.Native.Nat.{ℕ, _^_, _≤_, _<_};
 ghost use Rattle.bins.specs.Syn.{done};

@@ -1,8 +1,8 @@
 // The plain entry points: each refuses by 24 what is not plain, behind 4 and before 3, and else answers as the full one does.
 use bins::state::Engine;
 use bins::tags::CONTEXTS;
-use cabac::engine::payload_refusal;
-use hevc_plain::checks::plain_checks;
+use cabac_state::engine::payload_refusal;
+use hevc_plain_checks::checks::plain_checks;
 use hevc_reader::entries::Read;
 use hevc_reader::entries::ReadList;
 use hevc_reader::entries::read_bins;
@@ -16,7 +16,7 @@ ghost use Rattle.hevc_reader.specs.EntriesAgree.{payloadRead, binsRead};
 ghost use Rattle.hevc_writer.specs.EntriesPuts.{binsWritten};
 ghost use Rattle.hevc_writer.specs.Demand3.{Exactly};
 ghost use Rattle.hevc_plain.specs.Plain.{readPlain, readPlainBins, writePlain};
-ghost use Rattle.hevc_plain.specs.PlainCode.{plainChecks};
+ghost use Rattle.hevc_plain_checks.specs.PlainCode.{plainChecks};
 
 // One plain block from a payload.
 pub fn residual_coding_plain(

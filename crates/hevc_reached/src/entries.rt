@@ -3,8 +3,8 @@
 use bins::state::Engine;
 use bins::state::Interval;
 use bins::tags::CONTEXTS;
-use cabac::engine::open;
-use cabac::engine::settle;
+use cabac_state::engine::open;
+use cabac_state::engine::settle;
 use hevc_block::block::Blocked;
 use hevc_reader::entries::payload_checks;
 use hevc_reader::entries::read_into;

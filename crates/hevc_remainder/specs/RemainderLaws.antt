@@ -22,6 +22,8 @@ use Rattle.bins.specs.StepLaws.{bit-small}
 use Rattle.hevc_residual.specs.declared.params.Params.{Params}
 use Rattle.hevc_residual.specs.Wanted.{Wanted, S}
 use Rattle.hevc_residual.specs.Remainder.{log2TransformRange, inRange, egBase, egkS, limitedS, remainderS, riceNext, statNext}
+use Rattle.trees.specs.Agree.{run-stop}
+use Rattle.trees.specs.Pick.{pick, picked, passed}
 use Rattle.hevc_elements.specs.Agree.{from, Says, says-ok, says-no, readable-on}
 use Rattle.hevc_elements.specs.ShapeLaws.{run-done}
 use Rattle.hevc_remainder.specs.RemainderAgree.{most, SaysCapped, escapeLength, escapeS}
@@ -112,26 +114,6 @@ module _ (s v : ℕ) (h : s ≤ 84) where
         let g′ : 1 * 2 ^ (s / 4) ≤ 2 * v = rw one-shl at g in
         rw (lt-leb (3 * 2 ^ (s / 4)) v (rw three-shl at k), le-ltb (2 * v) (2 ^ (s / 4)) (omega arith))
 
--- ---- what a prefix and a suffix stand for
-module _ (n k : ℕ) (hn : n ≤ 31) (hk : k ≤ 22) where
-  ones-shl : (1 * 2 ^ n) % 18446744073709551616 ≡ 2 ^ n
-  ones-shl = let s : 1 * 2 ^ n ≡ 2 ^ n = omega arith in shl-64 1 1 n (omega arith) (omega arith) ∙ s
-
-  pub ones-some : 1 ≤ (1 * 2 ^ n) % 18446744073709551616
-  ones-some = rw ones-shl (pow-pos n)
-
-  ones-under : 2 ^ n - 1 < 2 ^ 31
-  ones-under = let p : 2 ^ n ≤ 2 ^ 31 = pow-mono hn in omega (arith, pow-pos n)
-
-  pub whole-shl : (((1 * 2 ^ n) % 18446744073709551616 - 1) * 2 ^ k) % 18446744073709551616 ≡ egBase k n
-  whole-shl = rw ones-shl (shl-64 (2 ^ n - 1) 31 k ones-under (omega arith))
-
-  pub whole-small : egBase k n < 9007199254740992
-  whole-small =
-      let a : (2 ^ n - 1) * 2 ^ k < 2 ^ (31 + k) = shl-lt 31 k ones-under in
-      let b : 2 ^ (31 + k) ≤ 2 ^ 53 = pow-mono {i = 31 + k} {j = 53} (omega arith) in
-      omega arith
-
 -- ---- answers that are bounded, whatever the source
 abbrev Gives : {R A : Type 0} → (A → Type 0) → Out R A → Type 0
 Gives P (Out.ok a r) = P a
@@ -174,22 +156,6 @@ gives-ok : {R A : Type 0} (P : A → Type 0) (o : Out R A) (a : A) (r : R) → G
 gives-ok P o a r h q = subst (Gives P) q h
 
 -- ---- a choice of two trees
-abbrev pick : Bool → S ℕ → S ℕ → S ℕ
-pick b t e = elim b [ true ↦ t | false ↦ e ]
-
-module _ (s : Bool) (l : List ℕ) (y : Interval) (cs : List ℕ) (t e : S ℕ) where
-  picked : (b : Bool) → b ≡ true → from s l (pick b t e) y cs ≡ from s l t y cs
-  picked true q = refl
-  picked false q = let z : _≡_ {A = ℕ} 0 1 = cc in absurd (omega arith)
-
-  passed : (b : Bool) → b ≡ false → from s l (pick b t e) y cs ≡ from s l e y cs
-  passed true q = let z : _≡_ {A = ℕ} 0 1 = cc in absurd (omega arith)
-  passed false q = refl
-
-run-stop : (s : Bool) (l : List ℕ) (n : ℕ) (y : Interval) (cs : List ℕ) → RefusedBy (refusedAt n y) (from {A = ℕ} s l (stop n) y cs)
-unfolding run
-run-stop s l n y cs = (cs, refl)
-
 -- what is refused is so by the tree that came to be run
 refused-as : {A : Type 0} (n : Refusal) (o p : Out Cursor A) → p ≡ o → RefusedBy n o → RefusedBy n p
 refused-as n o p q r = (r .0, q ∙ r .1)
@@ -263,13 +229,13 @@ module _ (m : ℕ) (w : ℕ → Wanted → Bool) (test : ℕ → Bool) (len base
       escaped-stops : test n ≡ true → RefusedBy (refusedAt 8 y) (from s l escaped x cs)
       escaped-stops t =
           refused-as (refusedAt 8 y) _ _
-          (ones-behind s l m x f F n y q w (λ n. pick (test n) (stop 8) (suffixed n)) cs ∙ picked s l y cs (stop 8) (suffixed n) (test n) t)
-          (run-stop s l 8 y cs)
+          (ones-behind s l m x f F n y q w (λ n. pick (test n) (stop 8) (suffixed n)) cs ∙ ap (λ u. from s l u y cs) (picked (test n) (stop 8) (suffixed n) t))
+          (cs, run-stop Wanted s l 8 y cs)
 
       module _ (t : test n ≡ false) (h : Readable s l y) (g : Step) (G : g ≡ stepOfBits (bitsFrom s l (len n) y)) where
         escaped-on : from s l escaped x cs ≡ from s l (suffixed n) y cs
         escaped-on =
-            ones-behind s l m x f F n y q w (λ n. pick (test n) (stop 8) (suffixed n)) cs ∙ passed s l y cs (stop 8) (suffixed n) (test n) t
+            ones-behind s l m x f F n y q w (λ n. pick (test n) (stop 8) (suffixed n)) cs ∙ ap (λ u. from s l u y cs) (passed (test n) (stop 8) (suffixed n) t)
 
         escaped-short : (k : Refusal) → g ≡ stopped k → SaysCapped g cs (from s l escaped x cs)
         escaped-short k e =
@@ -400,12 +366,12 @@ module _ (s : Bool) (l : List ℕ) (p : Params) (k : ℕ) (x : Interval) (v : Wa
   pub escape-limited : (T : ℕ) → p .extended ≡ true → T ≡ log2TransformRange p → SaysCapped r cs (from s l (limitedS T k v) x cs)
       → SaysCapped r cs (from s l (escapeS p k v) x cs)
   escape-limited T q e h =
-      subst (SaysCapped r cs) (sym (picked s l x cs (limitedS (log2TransformRange p) k v) (egkS k v) (p .extended) q))
+      subst (SaysCapped r cs) (sym (ap (λ u. from s l u x cs) (picked (p .extended) (limitedS (log2TransformRange p) k v) (egkS k v) q)))
       (subst (λ (z : ℕ). SaysCapped r cs (from s l (limitedS z k v) x cs)) e h)
 
   pub escape-egk : p .extended ≡ false → SaysCapped r cs (from s l (egkS k v) x cs) → SaysCapped r cs (from s l (escapeS p k v) x cs)
   escape-egk q h =
-      subst (SaysCapped r cs) (sym (passed s l x cs (limitedS (log2TransformRange p) k v) (egkS k v) (p .extended) q)) h
+      subst (SaysCapped r cs) (sym (ap (λ u. from s l u x cs) (passed (p .extended) (limitedS (log2TransformRange p) k v) (egkS k v) q))) h
 
 -- ---- the whole remainder
 pub capped-ok : (r : Step) (v : ℕ) (y : Interval) (cs : List ℕ) (o : Out Cursor ℕ) → SaysCapped r cs o → r ≡ step.Bin v y
@@ -457,13 +423,13 @@ module _ (s : Bool) (l : List ℕ) (p : Params) (rice : ℕ) (x : Interval) (f :
     unfolding remainderS remainder-ones remainder-low remainder-high remainder-under remainder-over
     remainder-few h =
         ones-behind s l 4 x f F n y q remainder-ones (λ q. pick (ltb q 4) (remainder-under q) remainder-over) cs
-        ∙ picked s l y cs (remainder-under n) remainder-over (ltb n 4) (lt-ltb n 4 h)
+        ∙ ap (λ u. from s l u y cs) (picked (ltb n 4) (remainder-under n) remainder-over (lt-ltb n 4 h))
 
     remainder-all : 4 ≤ n → from s l (remainderS p rice v) x cs ≡ from s l remainder-over y cs
     unfolding remainderS remainder-ones remainder-low remainder-high remainder-under remainder-over
     remainder-all h =
         ones-behind s l 4 x f F n y q remainder-ones (λ q. pick (ltb q 4) (remainder-under q) remainder-over) cs
-        ∙ passed s l y cs (remainder-under n) remainder-over (ltb n 4) (le-ltb n 4 h)
+        ∙ ap (λ u. from s l u y cs) (passed (ltb n 4) (remainder-under n) remainder-over (le-ltb n 4 h))
 
     -- under four ones
     module _ (few : n < 4) (h : Readable s l x) (g : Step) (G : g ≡ stepOfBits (bitsFrom s l rice y)) where

@@ -3,6 +3,7 @@ use bin_steps::seldom;
 use bin_steps::steps::decode_bypass_bits;
 use bins::state::Interval;
 use bins::state::Step;
+use exp_golomb::whole_of;
 use hevc_elements::shapes::ones;
 use hevc_residual::params::Params;
 ghost use mathlib.Core.Path.{_≡_};
@@ -74,14 +75,6 @@ fn capped(whole: u64) -> u32
     } else {
         1073741824
     }
-}
-
-// What n ones of an Exp-Golomb prefix of order k stand for, and the suffix behind them.
-pub fn whole_of(n: u32, k: u32, suffix: u32) -> u64
-    requires { ⌜ (n ≤ 31) × (k ≤ 22) ⌝ }
-    ensures { λ r. ⌜ r ≡ egBase k n + suffix ⌝ }
-{
-    (((1u64 << n) - 1) << k) + suffix as u64
 }
 
 // Exp-Golomb of order k; lengths that no level in range has are 8, given behind the prefix.

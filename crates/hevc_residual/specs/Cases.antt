@@ -26,6 +26,7 @@ use Rattle.hevc_residual.specs.Residual.{residual}
 use Rattle.hevc_residual.specs.Refusal.{writeRefusal}
 use Rattle.hevc_residual.specs.Numbers.{withinLimits, parameterRefusal, contextsRefusal, statisticRefusal, statisticsRefusal, roomRefusal}
 use Rattle.hevc_residual.specs.Entries.{PayloadRead, readByEngine, readPayloadBy, readPayload, BinsRead, readFromList, readBinsBy, readBins, BinsWritten, writeListBy, writeList, writeBinsBy, writeBins}
+use Rattle.hevc_residual.specs.AllOff.{allOff}
 
 pub data Case : Type 0 where
   anyInitCase : ℕ → ℕ → Case  -- value, context at every q
@@ -61,22 +62,7 @@ table =
 -- ---- the test
 plain : Bool → Params
 plain hiding =
-    record {
-      log2 = 2;
-      luma = true;
-      scan = 0;
-      depth = 8;
-      hiding = hiding;
-      «skip_allowed» = false;
-      lossless = false;
-      persistent = false;
-      «skip_context» = false;
-      «explicit_rdpcm» = false;
-      «implicit_rdpcm» = false;
-      inter = false;
-      aligning = false;
-      extended = false;
-    }
+    allOff 2 true 0 8 hiding
 
 stats : List ℕ
 stats = replicate 4 0

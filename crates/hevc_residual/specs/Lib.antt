@@ -1,6 +1,7 @@
 pub mod Layout
 pub mod Scan
 pub mod Wanted
+pub mod AllOff
 pub mod Head
 pub mod Remainder
 pub mod SubBlock

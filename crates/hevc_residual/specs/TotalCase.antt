@@ -26,6 +26,7 @@ use Rattle.hevc_residual.specs.Residual.{residual}
 use Rattle.hevc_residual.specs.Numbers.{withinLimits, parameterRefusal, contextsRefusal, statisticRefusal, statisticsRefusal}
 use Rattle.hevc_residual.specs.Entries.{FoundAt, PayloadRead, readByEngine, readPayloadBy, readPayload}
 use Rattle.hevc_residual.specs.TotalLaws.{drewSince, start-total}
+use Rattle.hevc_residual.specs.AllOff.{allOff}
 
 abbrev payload : List ℕ
 payload = 0x75 ∷ 0x00 ∷ []
@@ -40,22 +41,7 @@ stats = replicate 4 0
 -- 4x4 luma, scan 0, all options off
 abbrev plain : Params
 plain =
-    record {
-      log2 = 2;
-      luma = true;
-      scan = 0;
-      depth = 8;
-      hiding = false;
-      «skip_allowed» = false;
-      lossless = false;
-      persistent = false;
-      «skip_context» = false;
-      «explicit_rdpcm» = false;
-      «implicit_rdpcm» = false;
-      inter = false;
-      aligning = false;
-      extended = false;
-    }
+    allOff 2 true 0 8 false
 
 abbrev block : List ℤ
 block = replicate 16 (pos 0)

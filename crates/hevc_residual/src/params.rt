@@ -1,4 +1,6 @@
 // What a block is read and written with.
+ghost use mathlib.Core.Path.{_≡_};
+ghost use Rattle.hevc_residual.specs.AllOff.{allOff};
 
 // What the slice and the coding unit have settled before the block; numbers out of document 01's limits are answered by 4.
 pub struct Params {
@@ -16,6 +18,28 @@ pub struct Params {
     pub inter: bool, // CuPredMode is MODE_INTER
     pub aligning: bool, // cabac_bypass_alignment_enabled_flag
     pub extended: bool, // extended_precision_processing_flag
+}
+
+// Every option off but sign hiding, which is said.
+pub fn all_off(log2: u32, luma: bool, scan: u32, depth: u32, hiding: bool) -> Params
+    ensures { λ r. ⌜ r ≡ allOff log2 luma scan depth hiding ⌝ }
+{
+    Params {
+        log2,
+        luma,
+        scan,
+        depth,
+        hiding,
+        skip_allowed: false,
+        lossless: false,
+        persistent: false,
+        skip_context: false,
+        explicit_rdpcm: false,
+        implicit_rdpcm: false,
+        inter: false,
+        aligning: false,
+        extended: false,
+    }
 }
 
 // Explicit RDPCM: an enum, since a number above 2 would be no choice of the syntax.

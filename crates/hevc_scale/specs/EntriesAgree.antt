@@ -7,8 +7,8 @@ use Rattle.cabac.specs.Numbers.{Answer, accepted, refused, _orElse_, payloadRef
 use Rattle.hevc_residual.specs.Numbers.{contextsRefusal}
 use Rattle.hevc_writer.specs.declared.entries.Written.{Written}
 use Rattle.hevc_writer.specs.EntriesPuts.{writtenSays}
-use Rattle.hevc_scale.specs.declared.syntax.Scaled.{Scaled}
-use Rattle.hevc_scale.specs.declared.syntax.Scaled.the-variants as scaled
+use Rattle.hevc_scale_syntax.specs.declared.syntax.Scaled.{Scaled}
+use Rattle.hevc_scale_syntax.specs.declared.syntax.Scaled.the-variants as scaled
 use Rattle.hevc_scale.specs.declared.entries.Read.{Read}
 use Rattle.hevc_scale.specs.declared.entries.Read.the-variants as read
 use Rattle.hevc_scale.specs.declared.entries.ReadList.{ReadList}

@@ -30,15 +30,15 @@ use Rattle.hevc_residual.specs.Numbers.{contextsRefusal}
 use Rattle.hevc_elements.specs.Agree.{Reads, from, reads-on}
 use Rattle.hevc_rules.specs.ChecksAgree.{aboveRefusal}
 use Rattle.hevc_rules.specs.ChecksLaws.{above-contexts, contexts-packed}
-use Rattle.hevc_scale.specs.declared.syntax.Scaled.{Scaled}
-use Rattle.hevc_scale.specs.declared.syntax.Scaled.the-variants as scaled
+use Rattle.hevc_scale_syntax.specs.declared.syntax.Scaled.{Scaled}
+use Rattle.hevc_scale_syntax.specs.declared.syntax.Scaled.the-variants as scaled
 use Rattle.hevc_scale.specs.declared.entries.Read.the-variants as read
 use Rattle.hevc_scale.specs.declared.entries.ReadList.the-variants as readlist
 use Rattle.hevc_cross.specs.Scale.{scale, scaleS}
 use Rattle.hevc_cross.specs.Entries.{componentRefusal, PayloadRead, readByEngine, readPayloadBy, readPayload, readFromList, readBinsBy, readBins}
 use Rattle.hevc_cross.specs.ScaleLaws.{scale-any}
-use Rattle.hevc_scale.specs.Agree.{nothing, SaysScale}
-use Rattle.hevc_scale.specs.CodeLaws.{scale-stays}
+use Rattle.hevc_scale_syntax.specs.Agree.{nothing, SaysScale}
+use Rattle.hevc_scale_syntax.specs.CodeLaws.{scale-stays}
 use Rattle.hevc_scale.specs.EntriesAgree.{payloadRead, binsRead, payloadChecks, scaledNo}
 
 -- ---- 4

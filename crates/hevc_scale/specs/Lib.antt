@@ -1,5 +1,3 @@
-pub mod Agree
-pub mod CodeLaws
 pub mod EntriesAgree
 pub mod EntriesLaws
 pub mod WriteAgree

@@ -1,17 +1,17 @@
 // The entry points: a scale from a payload, from a bin list, and as bins.
 // Each takes anything: what is not accepted is answered by its number.
-use crate::syntax::Scaled;
 use crate::write::put_scale;
 use crate::write::value;
 use bins::places::SourcePlace;
 use bins::state::Engine;
 use bins::state::Interval;
 use bins::tags::CONTEXTS;
-use cabac::engine::open;
-use cabac::engine::payload_refusal;
-use cabac::engine::settle;
-use cabac::engine::state_refusal;
+use cabac_state::engine::open;
+use cabac_state::engine::payload_refusal;
+use cabac_state::engine::settle;
+use cabac_state::engine::state_refusal;
 use hevc_rules::checks::above_refusal;
+use hevc_scale_syntax::syntax::Scaled;
 use hevc_writer::entries::Written;
 use pen::room::Pen;
 use tables::decision_table;
@@ -88,7 +88,14 @@ pub fn read_scale(bytes: &[u8], e: Engine, contexts: &mut [u8; CONTEXTS], compon
     }
     let table = decision_table();
     let mut cs = *contexts;
-    let r = crate::syntax::read_scale(false, &table, &mut cs, component as usize, bytes, open(e));
+    let r = hevc_scale_syntax::syntax::read_scale(
+        false,
+        &table,
+        &mut cs,
+        component as usize,
+        bytes,
+        open(e),
+    );
     let Scaled::Got(z, x) = r else {
         return Read::Refused(scaled_refusal(r));
     };
@@ -112,7 +119,7 @@ pub fn read_scale_bins(bytes: &[u8], component: u32) -> ReadList
         offset: 0,
         position: SourcePlace(0),
     };
-    let r = crate::syntax::read_scale(
+    let r = hevc_scale_syntax::syntax::read_scale(
         true,
         &table,
         &mut contexts,

@@ -1,9 +1,9 @@
 // The scale as bins.
-use crate::layout::SIGN;
-use crate::layout::VALUE;
+use hevc_pen::shapes::put_prefix;
+use hevc_scale_syntax::layout::SIGN;
+use hevc_scale_syntax::layout::VALUE;
 use pen::room::Pen;
 use pen::room::put_bin;
-use pen::shapes::put_prefix;
 use tree_shapes::levels::magnitude;
 ghost use mathlib.Core.Path.{_≡_};
 ghost use Prim.Native.Nat.{_≤_};

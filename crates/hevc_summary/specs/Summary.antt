@@ -6,15 +6,10 @@ use mathlib.Core.List.{List}
 use lib.ListN.{getD, length}
 use lib.IntN.{ℤ, pos, natAbs}
 use Rattle.counting.specs.Count.{nonzero, sumTo, updated}
+pub use Rattle.counting.specs.Sizes.{side, area}
 use Rattle.hevc_summary.specs.declared.kept.Whole.{Whole}
 
 -- ---- a block is n by n, n = 2^log2, row by row; its sub-blocks are numbered row by row too
-abbrev pub side : ℕ → ℕ
-side log2 = 2 ^ log2
-
-abbrev pub area : ℕ → ℕ
-area log2 = 4 ^ log2
-
 -- sub-blocks in a row, and in all
 abbrev pub width : ℕ → ℕ
 width log2 = side log2 / 4

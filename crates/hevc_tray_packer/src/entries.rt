@@ -4,8 +4,8 @@ use crate::lists::read_lists;
 use bins::tags::CONTEXTS;
 use hevc_rules::checks::above_refusal;
 use hevc_rules::checks::parameter_refusal;
-use hevc_tray_reader::rows::flags_refusal;
 use hevc_tray_reader::rows::params_of;
+use hevc_tray_reader::rows::rows_refusal;
 use packer::list::Packing;
 use packer::list::pack_from;
 ghost use mathlib.Core.Path.{_≡_};
@@ -18,20 +18,6 @@ ghost use Rattle.hevc_tray_packer.specs.Promise.{traySays, TrayBack};
 pub struct TrayPacking {
     pub done: usize,
     pub packing: Packing,
-}
-
-// 4: a record with a flag above 1
-fn rows_refusal(records: &[[u8; 14]]) -> u32
-    ensures { λ r. ⌜ r ≡ rowsRefusal (now (records .entry)) ⌝ }
-{
-    let mut i: usize = 0;
-    while i < records.len() {
-        if flags_refusal(records[i]) != 0 {
-            return 4;
-        }
-        i += 1;
-    }
-    0
 }
 
 // 4: a record out of its limits

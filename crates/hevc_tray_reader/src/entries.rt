@@ -1,12 +1,12 @@
 // The entry point: records of parameters, one payload, one long buffer of levels cut into consecutive n·n parts.
 // It takes anything: what document 01 does not accept is answered by its number.
-use crate::rows::flags_refusal;
 use crate::rows::params_of;
 use crate::rows::row_of;
+use crate::rows::rows_refusal;
 use bins::state::Engine;
 use bins::tags::CONTEXTS;
-use cabac::engine::payload_refusal;
-use cabac::engine::state_refusal;
+use cabac_state::engine::payload_refusal;
+use cabac_state::engine::state_refusal;
 use hevc_reader::entries::Read;
 use hevc_reader::entries::read_checked;
 use hevc_rules::checks::above_refusal;
@@ -27,20 +27,6 @@ fn read_refusal(r: Read) -> u32
         Read::Block(_, _) => 0,
         Read::Refused(n) => n,
     }
-}
-
-// 4: a record with a flag above 1
-fn rows_refusal(records: &[[u8; 14]]) -> u32
-    ensures { λ r. ⌜ r ≡ rowsRefusal (now (records .entry)) ⌝ }
-{
-    let mut i: usize = 0;
-    while i < records.len() {
-        if flags_refusal(records[i]) != 0 {
-            return 4;
-        }
-        i += 1;
-    }
-    0
 }
 
 // 4: a record out of its limits, or one for whose part too few places are left

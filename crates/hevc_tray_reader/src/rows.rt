@@ -5,7 +5,7 @@ use hevc_residual::params::Rdpcm;
 use hevc_rules::checks::above_refusal;
 ghost use mathlib.Core.Path.{_≡_};
 ghost use Rattle.bins.specs.Engine.{bitNo};
-ghost use Rattle.hevc_tray.specs.Rows.{paramsOf, rdpcmNo, flagsRefusal};
+ghost use Rattle.hevc_tray.specs.Rows.{paramsOf, rdpcmNo, flagsRefusal, rowsRefusal};
 ghost use Rattle.hevc_tray.specs.Seen.{rowOf};
 
 fn bit_of(b: bool) -> u32
@@ -68,4 +68,18 @@ pub fn row_of(f: Found) -> [u32; 5]
     let row = f.row;
     let greatest = f.greatest;
     [skip, rdpcm, column, row, greatest]
+}
+
+// 4: a record with a flag above 1
+pub fn rows_refusal(records: &[[u8; 14]]) -> u32
+    ensures { λ r. ⌜ r ≡ rowsRefusal (now (records .entry)) ⌝ }
+{
+    let mut i: usize = 0;
+    while i < records.len() {
+        if flags_refusal(records[i]) != 0 {
+            return 4;
+        }
+        i += 1;
+    }
+    0
 }

@@ -8,17 +8,17 @@ use lib.IntN.{ℤ, pos, natAbs}
 use lib.Dec.{ltb, eqb}
 use lib.ListN.{length, getD}
 use lib.Pow.{pow-add, pow-mono}
-use borrow.Author.Tests.{ltb-true, lt-ltb, eqb-false, not-false}
+use borrow.Author.Tests.{ltb-true, lt-ltb, eqb-false}
 use Rattle.hevc_residual.specs.declared.params.Params.{Params}
 use Rattle.hevc_residual.specs.Scan.{Spot, spot}
 use Rattle.hevc_residual.specs.Wanted.{Wanted, area, width, cellOf, levelAt, negative, outerOf, innerOf, spotIn, wantedIn, isSig}
 use Rattle.hevc_residual.specs.Head.{lastWanted}
-use Rattle.hevc_residual.specs.Remainder.{log2TransformRange, inRange}
+use Rattle.hevc_residual.specs.Remainder.{log2TransformRange}
 use Rattle.hevc_residual.specs.Refusal.{allZero, notCoded, tooFar, anyDisagrees, writeRefusal}
 use Rattle.hevc_scans.specs.ScanLaws.{scan-order, square-is}
 use Rattle.hevc_scans.specs.CellLaws.{cell-onto}
 use Rattle.hevc_residual.specs.LimitLaws.{range-small}
-use Rattle.hevc_rules.specs.BehindLaws.{range-most}
+use Rattle.trees.specs.LevelLaws.{near-all}
 use Rattle.hevc_residual.specs.Limits.{Accepted}
 use Rattle.hevc_wanted.specs.LastLaws.{last-suc}
 
@@ -43,21 +43,11 @@ writable p w q =
     go false false false true e f g h z = absurd (omega arith)
     go false false false false e f g h z = record { some = e; coded = f; near = g; agree = h }
 
-or-none : (a b : Bool) → (a || b) ≡ false → (a ≡ false) × (b ≡ false)
-or-none false b q = (refl, q)
-or-none true b q = let z : _≡_ {A = ℕ} 0 1 = cc in absurd (omega arith)
-
 -- ---- magnitudes
-near-small : (t : ℕ) → t ≤ 22 → (l : List ℤ) → tooFar t l ≡ false → (i : ℕ) → natAbs (getD l i (pos 0)) ≤ 4194304
-unfolding tooFar
-near-small t h [] q i = omega arith
-near-small t h (v ∷ l) q zero =
-    let o = or-none (not (inRange t (negative v) (natAbs v))) (tooFar t l) q in
-    range-most t h (negative v) (natAbs v) (not-false (inRange t (negative v) (natAbs v)) (o .0))
-near-small t h (v ∷ l) q (suc i) = near-small t h l (or-none (not (inRange t (negative v) (natAbs v))) (tooFar t l) q .1) i
-
 pub levels-small : (p : Params) (w : Wanted) → p .depth ≤ 16 → writeRefusal p w ≡ 0 → (i : ℕ) → natAbs (getD (w .levels) i (pos 0)) ≤ 4194304
-levels-small p w h q i = near-small (log2TransformRange p) (range-small p h) (w .levels) (writable p w q .near) i
+levels-small p w h q i =
+    let m : 2 ^ log2TransformRange p ≤ 2 ^ 22 = pow-mono (range-small p h) in
+    omega (arith, near-all (log2TransformRange p) (w .levels) (writable p w q .near) i)
 
 -- ---- some level is not 0
 some-level : (l : List ℤ) → allZero l ≡ false → (i : ℕ) × (i < length l) × (0 < natAbs (getD l i (pos 0)))

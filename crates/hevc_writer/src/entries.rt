@@ -12,7 +12,7 @@ use hevc_rules::sizes::grid;
 use hevc_scans::orders::inner_order;
 use hevc_scans::orders::outer_order;
 use hevc_wanted::last::last_wanted;
-use hevc_wanted::refusal::write_refusal;
+use hevc_write_refusal::refusal::write_refusal;
 use pen::room::Pen;
 ghost use mathlib.Core.Path.{_≡_};
 ghost use lib.ListN.{length};

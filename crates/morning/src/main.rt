@@ -6,7 +6,6 @@
 // The figures' arrays are apart as in `morning_add::adding::add_event`.
 // A book is the name of a file, or - for standard input.
 // A piece is read and fed: morning_sums::feeding says what that adds up to, and that no cut into pieces matters.
-mod maps; // maps.rt: heat maps, as text and as a picture
 mod table; // table.rt: lines of the table, of one book and of two
 mod words; // words.rt: refusals in words
 
@@ -16,6 +15,7 @@ use libc::STDERR_FILENO;
 use libc::STDIN_FILENO;
 use morning_add::adding::Sizes;
 use morning_add::begin::begin_book;
+use morning_maps::maps;
 use morning_sums::feeding::Feeding;
 use morning_sums::feeding::feed;
 use morning_sums::feeding::finish;

@@ -9,7 +9,7 @@ pub fn reason(n: u32) {
         4 => write::text(b"parameter out of its limits"),
         5 => write::text(b"starting offset 510 or 511"),
         6 => write::text(b"engine has ended"),
-        7 => write::text(b"alignment at an offset of 256 or more"),
+        7 => write::text(b"alignment wanted while the offset is 256 or more"),
         8 => write::text(b"level outside the coefficient range"),
         20 => write::text(b"line is not lower-case hexadecimal"),
         21 => write::text(b"line is not as long as it says"),

@@ -16,10 +16,10 @@ use Rattle.packing.specs.Pack.{Enc, begun, widened, encoded, bypassEnc, alignEn
 use Rattle.packing.specs.FollowLaws.{Wide}
 use Rattle.packing.specs.TreeLaws.{entry-wide}
 use Rattle.packing.specs.Packs.{packed-n}
-use Rattle.packer.specs.declared.coder.Coder.{Coder}
-use Rattle.packer.specs.Register.{registerOf, Steady, Grown, spared, PutOut, inked, lastTwo, lastOf}
-use Rattle.packer.specs.RoomLaws.{placed-is, inked-length}
-use Rattle.packer.specs.RegisterLaws.{nine-few, last-few}
+use Rattle.packer_steps.specs.declared.coder.Coder.{Coder}
+use Rattle.packer_steps.specs.Register.{registerOf, Steady, Grown, spared, PutOut, inked, lastTwo, lastOf}
+use Rattle.packer_steps.specs.RoomLaws.{placed-is, inked-length}
+use Rattle.packer_steps.specs.RegisterLaws.{nine-few, last-few}
 
 -- ---- an interval above another: low has the number v above its b bits
 pub record Above (v at b : ℕ) (small big : Enc) : Type 0 where

@@ -15,8 +15,8 @@ use Rattle.bins.specs.CodeLaws.{Packed, packed-set}
 use Rattle.packing.specs.Pack.{Enc, begun, encoded, bypassEnc, alignEnc, Entry, ofContext, ofBypass, ofAlign, kindOf, entriesOf, Writing, writing, favoured, ctxAfter, packedBin, packedEntry, packed, payloadOf, packedFrom}
 use Rattle.packing.specs.PayloadLaws.{begun-wide, payload-length}
 use Rattle.packing.specs.Packs.{packed-n, entries-length, entriesMost}
-use Rattle.packer.specs.declared.coder.Coder.{Coder}
-use Rattle.packer.specs.Register.{registerOf, Steady, Grown, PutOut, lastOf}
+use Rattle.packer_steps.specs.declared.coder.Coder.{Coder}
+use Rattle.packer_steps.specs.Register.{registerOf, Steady, Grown, PutOut, lastOf}
 use Rattle.packer.specs.StandLaws.{Stands, coderBegun, stands-begin, stands-wide, stands-few, stands-contexts, stands-more, stands-out, Closed, stands-flush}
 
 -- ---- contexts stay packed

@@ -1,3 +1,2 @@
 // Bins into a payload, by the arithmetic writer of H.265's informative text (9.3.5), for any syntax.
-pub mod coder; // coder.rt: the writer's steps into a lent room
 pub mod list; // list.rt: a bin list, entry by entry

@@ -1,13 +1,13 @@
 // A bin list, written entry by entry. Its own entries say what each bin is: nothing is parsed again, and any syntax's list is written so.
-use crate::coder::Coder;
-use crate::coder::align;
-use crate::coder::bypass;
-use crate::coder::decision;
-use crate::coder::flush;
-use crate::coder::put_out;
 use bins::tags::ALIGNMENT;
 use bins::tags::BYPASS;
 use bins::tags::CONTEXTS;
+use packer_steps::coder::Coder;
+use packer_steps::coder::align;
+use packer_steps::coder::bypass;
+use packer_steps::coder::decision;
+use packer_steps::coder::flush;
+use packer_steps::coder::put_out;
 use tables::decision_table;
 ghost use mathlib.Core.Path.{_≡_};
 ghost use Prim.Native.Nat.{_+_, _*_, _/_, _≤_, _<_};
@@ -19,7 +19,7 @@ ghost use Rattle.bins.specs.CodeLaws.{Packed};
 ghost use Rattle.packing.specs.Pack.{kindOf, packedEntry, writing};
 ghost use Rattle.packing.specs.Packs.{entriesMost};
 ghost use Rattle.packing.specs.Entries.{packInto};
-ghost use Rattle.packer.specs.Register.{registerOf, Steady};
+ghost use Rattle.packer_steps.specs.Register.{registerOf, Steady};
 ghost use Rattle.packer.specs.WalkLaws.{Laid};
 ghost use Rattle.packer.specs.IntoCode.{packingSays};
 

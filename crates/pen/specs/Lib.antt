@@ -3,4 +3,4 @@ pub mod SheetLaws
 pub mod ShapeLaws
 pub mod PlainLaws
 pub mod RoomPuts
-pub mod RemainderLaws
+pub mod PrefixCounts

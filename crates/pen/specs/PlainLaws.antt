@@ -11,6 +11,7 @@ use Rattle.bins.specs.Tags.{tag, bypassNo}
 use Rattle.bins.specs.Syn.{Syn, done, stop, _>>=_, also, write}
 use Rattle.bins.specs.Readers.{odd, bitsS, onesS}
 use Rattle.trees.specs.Shapes.{egBase, countS, golombS}
+use Rattle.trees.specs.Pick.{pick}
 use Rattle.pen.specs.Sheet.{Sheet, Wrote, Counts}
 use Rattle.pen.specs.SheetLaws.{wrote-then, wrote-call}
 
@@ -107,9 +108,6 @@ module _ {B : Type 0} (s s′ : Sheet) where
       (count-same 0 w n most (λ g t. ltb g n) want (counts-plain n most 0) c ctx most 0 (omega arith) (omega arith)) (done-same n 0 w) (h 0)
 
 -- ---- ones, a test that does not stop them, a suffix
-abbrev pub pick : {B : Type 0} → Bool → Syn B ℕ → Syn B ℕ → Syn B ℕ
-pick b t e = elim b [ true ↦ t | false ↦ e ]
-
 pub passed : {B : Type 0} (b : Bool) (t e u : Syn B ℕ) (w : B) (s s′ : Sheet) → b ≡ false → Wrote u (pick b t e) w s s′ → Wrote u e w s s′
 passed b t e u w s s′ q h = subst (λ z. Wrote u (pick z t e) w s s′) q h
 

@@ -9,7 +9,7 @@ use lib.Dec.{ltb}
 use borrow.Author.Tests.{lt-ltb, le-ltb}
 use Rattle.bins.specs.Tags.{tag, bypassNo, alignTag, low, high, entry}
 use Rattle.bins.specs.Syn.{Syn, done, stop, bin, bypass, align, _>>=_, Written, also, write}
-use Rattle.bins.specs.WriteLaws.{behind, thenWrite, write-bind}
+use Rattle.bins.specs.WriteLaws.{behind, thenWrite, write-bind, also-ok}
 use Rattle.pen.specs.declared.room.Pen.{Pen}
 use Rattle.pen.specs.Sheet.{Sheet, sheet, moved, inked, entered, enteredAll, Wrote}
 
@@ -56,12 +56,6 @@ entered-++ [] m s = refl
 entered-++ (x ∷ l) m s = entered-++ l m (inked x s)
 
 -- ---- trees
-also-spells : {A : Type 0} (x : ℕ) (o : Written A) (a : A) (l : List ℕ) → also x o ≡ Written.ok a l
-    → (m : List ℕ) × (o ≡ Written.ok a m) × (l ≡ entry x m)
-unfolding also
-also-spells x (Written.ok a′ m) a l q = (m, cc, cc)
-also-spells x (Written.no r) a l q = let z : _≡_ {A = ℕ} 0 1 = cc in absurd (omega arith)
-
 behind-spells : {A : Type 0} (l₁ : List ℕ) (o : Written A) (a : A) (l : List ℕ) → behind l₁ o ≡ Written.ok a l
     → (m : List ℕ) × (o ≡ Written.ok a m) × (l ≡ l₁ ++ m)
 behind-spells l₁ (Written.ok a′ m) a l q = (m, cc, cc)
@@ -85,7 +79,7 @@ module _ {B A : Type 0} (w : B) where
   one-more t u x s e =
       record {
         leads = λ a l q.
-            let f = also-spells x (write u w) a l (sym e ∙ q) in
+            let f = also-ok x (write u w) a l (sym e ∙ q) in
             (f .0, f .1, ap (λ (z : List ℕ). enteredAll z s) (f .2));
       }
 

@@ -1,5 +1,4 @@
 // A drawing that is whole, as a line of the book, or in words.
-use crate::words;
 use bins::tags::CONTEXTS;
 use frame::fields::params;
 use hevc_residual::params::Params;
@@ -9,6 +8,7 @@ use press_advice::advice::change_of;
 use press_advice::advice::place_of;
 use press_frame::press::Pressed;
 use press_frame::press::press;
+use press_text::words;
 use text::lines::part;
 use text::write;
 

@@ -1,19 +1,19 @@
 // A drawing line by line: words first, then the rows; an empty line, a dot or the end of the input ends it.
-use crate::keys;
-use crate::keys::Taken;
 use crate::made;
-use crate::rows;
-use crate::rows::Row;
-use crate::tokens::end_of;
-use crate::tokens::start_of;
-use crate::values;
-use crate::words;
-use crate::words::LATE;
-use crate::words::LONG;
-use crate::words::NO_SIZE;
 use bins::tags::CONTEXTS;
 use bytes::scan::find;
 use check::same;
+use press_text::keys;
+use press_text::keys::Taken;
+use press_text::rows;
+use press_text::rows::Row;
+use press_text::tokens::end_of;
+use press_text::tokens::start_of;
+use press_text::values;
+use press_text::words;
+use press_text::words::LATE;
+use press_text::words::LONG;
+use press_text::words::NO_SIZE;
 use text::lines::part;
 
 // What goes on from line to line.

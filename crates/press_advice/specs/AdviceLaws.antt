@@ -17,8 +17,8 @@ use Rattle.hevc_residual.specs.Numbers.{parameterRefusal}
 use Rattle.hevc_residual.specs.Limits.{Accepted}
 use Rattle.hevc_residual.specs.LimitLaws.{parameter-passed, parameter-same}
 use Rattle.hevc_residual.specs.Refusal.{writeRefusal}
-use Rattle.press_advice.specs.Advice.{First, drawn, refusalOf, isFar, isFarBy, isOffIn, isOffAt, strokeOf, changed, accepts, isTaken}
-use Rattle.press_advice.specs.StrokeLaws.{taken-accepted}
+use Rattle.press_strokes.specs.Advice.{First, drawn, refusalOf, isFar, isFarBy, isOffIn, isOffAt, strokeOf, changed, accepts, isTaken}
+use Rattle.press_strokes.specs.StrokeLaws.{taken-accepted}
 use Rattle.press_advice.specs.Says.{FarAt, OffAt, Suggested}
 
 -- ---- the number

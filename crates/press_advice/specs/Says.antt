@@ -13,7 +13,7 @@ use Rattle.press_advice.specs.declared.advice.Place.{Place}
 use Rattle.press_advice.specs.declared.advice.Place.the-variants as ofPlace
 use Rattle.press_advice.specs.declared.advice.Change.{Change}
 use Rattle.press_advice.specs.declared.advice.Change.the-variants as ofChange
-use Rattle.press_advice.specs.Advice.{First, refusalOf, isFar, isOffAt, isOffIn, strokeOf, isTaken}
+use Rattle.press_strokes.specs.Advice.{First, refusalOf, isFar, isOffAt, isOffIn, strokeOf, isTaken}
 
 -- the first level out of range
 pub record FarAt (p : Params) (levels : List ℤ) (i : ℕ) : Type 0 where

@@ -1,9 +1,4 @@
 // Where a drawing is refused, and which single change would do.
-use crate::search::first_far;
-use crate::search::first_off;
-use crate::search::first_taken;
-use crate::search::refusal;
-use crate::strokes::stroke_at;
 use hevc_remainder::remainder::range_bits;
 use hevc_residual::params::Params;
 use hevc_rules::checks::parameter_refusal;
@@ -11,12 +6,17 @@ use hevc_rules::sizes::area_of;
 use hevc_rules::sizes::grid;
 use hevc_scans::orders::outer_order;
 use hevc_wanted::sub::corner_at;
+use press_strokes::search::first_far;
+use press_strokes::search::first_off;
+use press_strokes::search::first_taken;
+use press_strokes::search::refusal;
+use press_strokes::strokes::stroke_at;
 ghost use mathlib.Core.Path.{_≡_};
 ghost use Prim.Native.Nat.{_-_, _*_, _/_, _^_, _≤_, _<_};
 ghost use lib.ListN.{length};
 ghost use Rattle.hevc_residual.specs.Wanted.{area};
 ghost use Rattle.hevc_residual.specs.Limits.{Accepted};
-ghost use Rattle.press_advice.specs.Advice.{refusalOf, isTaken};
+ghost use Rattle.press_strokes.specs.Advice.{refusalOf, isTaken};
 ghost use Rattle.press_advice.specs.Says.{PlaceHolds, ChangeHolds};
 
 // Where the writer's number comes from.

@@ -6,7 +6,6 @@
 //
 // A frame of H.264 stands behind the word `h264` and a space: QP, the payload length as two bytes, high first, 40 pairs m, n as signed bytes (two's
 // complement), the payload of at most 4,096 bytes.
-mod grid; // grid.rt: the levels
 mod h264; // h264.rt: a frame of H.264
 mod summary; // summary.rt: count, sum and map
 mod words; // words.rt: refusals and findings in words
@@ -15,7 +14,7 @@ use bins::places::BitPlace;
 use bins::state::Engine;
 use bins::tags::CONTEXTS;
 use bytes::scan::find;
-use cabac::engine::State;
+use cabac::answers::State;
 use cabac_engine::engine::start;
 use cabac_init::contexts::init_contexts;
 use check::same;
@@ -23,7 +22,9 @@ use hevc_block::block::Found;
 use hevc_reader::entries::Read;
 use hevc_reader::entries::residual_coding;
 use hevc_residual::params::Params;
+use hevc_residual::params::all_off;
 use libc::STDIN_FILENO;
+use show_grid::grid;
 use text::lines::part;
 use text::write;
 use text_fields::fields::Octets;
@@ -56,22 +57,13 @@ fn wide(byte: u8) -> usize
 }
 
 fn params(header: &[u8; 8]) -> Params {
-    Params {
-        log2: number(header[0]),
-        luma: header[1] == 1,
-        scan: number(header[2]),
-        depth: number(header[3]),
-        hiding: header[5] == 1,
-        skip_allowed: false,
-        lossless: false,
-        persistent: false,
-        skip_context: false,
-        explicit_rdpcm: false,
-        implicit_rdpcm: false,
-        inter: false,
-        aligning: false,
-        extended: false,
-    }
+    all_off(
+        number(header[0]),
+        header[1] == 1,
+        number(header[2]),
+        number(header[3]),
+        header[5] == 1,
+    )
 }
 
 // A luma or hiding byte above 1 is 4, as any size that there is none of.

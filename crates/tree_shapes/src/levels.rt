@@ -20,7 +20,7 @@ pub fn is_negative(v: i32) -> bool
     v < 0
 }
 
-fn larger(a: u32, b: u32) -> u32
+pub fn larger(a: u32, b: u32) -> u32
     ensures { λ r. ⌜ r ≡ max a b ⌝ }
 {
     if a < b { b } else { a }

@@ -9,7 +9,7 @@ use lib.Pow.{pow-pos}
 use lib.IntN.{ℤ, pos, negsuc, natAbs}
 use lib.ListN.{length, getD, set, length-set}
 use lib.Seq.{getD-set-same, getD-set-other}
-use borrow.Author.Tests.{ltb-true, lt-ltb, eqb-false, ne-eqb, not-false}
+use borrow.Author.Tests.{ltb-true, leb-true, lt-ltb, eqb-false, ne-eqb, not-false}
 use Rattle.trees.specs.Levels.{negative, signed, inRange, allZero, tooFar}
 use Rattle.trees.specs.ReaderLaws.{clash, or-false}
 use Rattle.trees.specs.ListLaws.{All, all-map, Falling, falling-below, not-zero}
@@ -55,6 +55,17 @@ unfolding tooFar
 far-false T [] e c h = absurd (omega arith)
 far-false T (v ∷ l) e zero h = not-false (inRange T (negative v) (natAbs v)) (or-false (not (inRange T (negative v) (natAbs v))) (tooFar T l) e .0)
 far-false T (v ∷ l) e (suc c) h = far-false T l (or-false (not (inRange T (negative v) (natAbs v))) (tooFar T l) e .1) c (omega arith)
+
+range-near : (t : ℕ) (neg : Bool) (m : ℕ) → inRange t neg m ≡ true → m ≤ 2 ^ t
+range-near t true m q = leb-true m (2 ^ t) q
+range-near t false m q = omega (arith, ltb-true m (2 ^ t) q)
+
+-- so each magnitude is at most 2^t, and beyond the levels there is none
+pub near-all : (t : ℕ) (l : List ℤ) → tooFar t l ≡ false → (i : ℕ) → natAbs (getD l i (pos 0)) ≤ 2 ^ t
+unfolding tooFar
+near-all t [] q i = omega arith
+near-all t (v ∷ l) q zero = range-near t (negative v) (natAbs v) (far-false t (v ∷ l) q 0 (omega arith))
+near-all t (v ∷ l) q (suc i) = near-all t l (or-false (not (inRange t (negative v) (natAbs v))) (tooFar t l) q .1) i
 
 pub false-far : (T : ℕ) (l : List ℤ) → ((c : ℕ) → c < length l → inRange T (negative (getD l c (pos 0))) (natAbs (getD l c (pos 0))) ≡ true) → tooFar T l ≡ false
 unfolding tooFar

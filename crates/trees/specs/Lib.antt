@@ -4,6 +4,7 @@ pub mod Levels
 pub mod Lent
 pub mod Among
 pub mod Shapes
+pub mod Pick
 pub mod Counters
 pub mod TreeLaws
 pub mod GoesLaws

@@ -1,39 +1,24 @@
 // Two blocks of one payload, one after the other: through a decoder that holds the payload, and through the plain entry point.
 // A line for each block: extents, greatest magnitude and the position behind it, and whether the two leave the same behind.
-mod alike; // alike.rt: whether two readings leave the same behind
 
-use alike::same_answer;
-use alike::same_contexts;
-use alike::same_levels;
-use alike::same_statistics;
 use bins::state::Engine;
 use bins::tags::CONTEXTS;
-use cabac::engine::State;
+use cabac::answers::State;
 use cabac_engine::engine::start;
 use hevc_decoder::decoder::block_through;
 use hevc_reader::entries::Read;
 use hevc_reader::entries::residual_coding;
 use hevc_residual::params::Params;
+use hevc_residual::params::all_off;
+use same_answers::alike::same_answer;
+use same_answers::alike::same_contexts;
+use same_answers::alike::same_levels;
+use same_answers::alike::same_statistics;
 use text::write;
 
 // 8x8 luma, scan 0, all options off.
 fn params() -> Params {
-    Params {
-        log2: 3,
-        luma: true,
-        scan: 0,
-        depth: 8,
-        hiding: false,
-        skip_allowed: false,
-        lossless: false,
-        persistent: false,
-        skip_context: false,
-        explicit_rdpcm: false,
-        implicit_rdpcm: false,
-        inter: false,
-        aligning: false,
-        extended: false,
-    }
+    all_off(3, true, 0, 8, false)
 }
 
 fn show(r: Read) {

@@ -1,5 +1,5 @@
 -- `bulmegart_plain_params` meets its contract. Assumes nothing.
-use Rattle.hevc_plain.specs.Record.{madeSays}
+use Rattle.hevc_plain_checks.specs.Record.{madeSays}
 use Rattle.bulmegart_plain.specs.Laws.{record-no, record-yes}
 use borrow.Author.Needs.{needs}
 use Rattle.bulmegart_plain.proofs.plain.bulmegart_plain_params.Statement.{statement}
@@ -32,15 +32,15 @@ is-set-requires-4 c κs = search needs
 is-set-requires-5 : tie.Need-is-set-requires-5
 is-set-requires-5 c κs = search needs
 
-plain-record-requires : tie.Need-plain-record-requires
-plain-record-requires c κs = search needs
+plain-params-requires : tie.Need-plain-params-requires
+plain-params-requires c κs = search needs
 
 params-answer-requires-2 : tie.Need-params-answer-requires-2
 params-answer-requires-2 c κs = search needs
 
 returns-2 : tie.Need-returns-2
 returns-2 c =
-    let made = c .before .plain-record in
+    let made = c .before .plain-params in
     let s5 = c .before .before in
     let s4 = s5 .before in
     let s3 = s4 .before in
@@ -65,6 +65,6 @@ bulmegart-plain-params-spec =
     is-set-requires-3
     is-set-requires-4
     is-set-requires-5
-    plain-record-requires
+    plain-params-requires
     params-answer-requires-2
     returns-2)

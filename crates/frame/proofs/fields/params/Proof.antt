@@ -1,4 +1,5 @@
 -- `params` meets its contract. Assumes nothing.
+use mathlib.Core.Path.{_∙_}
 use native.Mathlib.Omega.{arith}
 use borrow.Author.Needs.{needs}
 use Rattle.frame.specs.VerdictLaws.{params-is}
@@ -29,12 +30,17 @@ number-requires-3 c κs = search needs
 shared-slice-read-hiding : tie.Need-shared-slice-read-hiding
 shared-slice-read-hiding c = search needs
 
+all-off-requires : tie.Need-all-off-requires
+all-off-requires c κs = search needs
+
 returns : tie.Need-returns
 returns c =
-    let at-number2 = c .before .before .before in
+    let at-number3 = c .before .before in
+    let at-number2 = at-number3 .before .before in
     let at-number = at-number2 .before .before .before in
     let at-start = at-number .before .before .before in
-    let a = at-start .args in params-is (a .bytes .now) _ _ _ (at-number .number .ensures) (at-number2 .number2 .ensures) (c .before .number3 .ensures)
+    let a = at-start .args in
+    c .all-off .ensures ∙ params-is (a .bytes .now) _ _ _ (at-number .number .ensures) (at-number2 .number2 .ensures) (at-number3 .number3 .ensures)
 
 pub params-spec : {M : Type 1} → statement M
 params-spec =
@@ -48,4 +54,5 @@ params-spec =
     shared-slice-read-number-3
     number-requires-3
     shared-slice-read-hiding
+    all-off-requires
     returns)

@@ -3,7 +3,7 @@ use native.Mathlib.Omega.{arith}
 use mathlib.Core.Path.{refl, sym, ap, subst, _∙_}
 use Prim.Native.Nat.{_-_, _^_, _≤_, _<_}
 use Rattle.hevc_residual.specs.Head.{leastOf, suffixBits}
-use Rattle.pen.specs.RemainderLaws.{bits-as}
+use Rattle.hevc_pen.specs.RemainderLaws.{bits-as}
 use Rattle.hevc_pen.specs.HeadLaws.{groupOf, group-small, group-least, group-suffix, suffix-small}
 use borrow.Author.Needs.{needs}
 use Rattle.hevc_pen.proofs.head.put_last_suffix.Statement.{statement}

@@ -2,7 +2,8 @@
 use native.Mathlib.Omega.{arith}
 use mathlib.Core.Path.{refl, sym, ap, subst, _∙_}
 use Prim.Native.Nat.{_+_, _^_, _<_}
-use Rattle.pen.specs.RemainderLaws.{Prefixed, base-reached, egk-fits, egk-written, bits-as}
+use Rattle.exp_golomb.specs.PrefixLaws.{Prefixed, base-reached}
+use Rattle.hevc_pen.specs.RemainderLaws.{egk-fits, egk-written, bits-as}
 use borrow.Author.Needs.{needs}
 use Rattle.hevc_pen.proofs.remainder.put_exp_golomb.Statement.{statement}
 use Rattle.hevc_pen.proofs.remainder.put_exp_golomb.Tie as tie

@@ -3,7 +3,8 @@ use native.Mathlib.Omega.{arith}
 use mathlib.Core.Path.{refl, sym, ap, subst, _∙_}
 use Prim.Native.Nat.{_+_, _-_, _^_, _≤_, _<_}
 use Rattle.hevc_residual.specs.Remainder.{egBase}
-use Rattle.pen.specs.RemainderLaws.{Prefixed, base-reached, limited-fits, limited-written, bits-as}
+use Rattle.exp_golomb.specs.PrefixLaws.{Prefixed, base-reached}
+use Rattle.hevc_pen.specs.RemainderLaws.{limited-fits, limited-written, bits-as}
 use borrow.Author.Needs.{needs}
 use Rattle.hevc_pen.proofs.remainder.put_limited.Statement.{statement}
 use Rattle.hevc_pen.proofs.remainder.put_limited.Tie as tie

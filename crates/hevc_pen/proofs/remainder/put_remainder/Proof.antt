@@ -2,7 +2,7 @@
 use native.Mathlib.Omega.{arith}
 use mathlib.Core.Path.{refl, sym, ap, subst, _∙_}
 use Prim.Native.Nat.{_+_, _-_, _^_, _≤_, _<_}
-use Rattle.pen.specs.RemainderLaws.{quotient-shl, quotient-back, low-fits, four-shl, four-back, remainder-low, remainder-high, bits-as, escape-as}
+use Rattle.hevc_pen.specs.RemainderLaws.{quotient-shl, quotient-back, low-fits, four-shl, four-back, remainder-low, remainder-high, bits-as, escape-as}
 use borrow.Author.Needs.{needs}
 use Rattle.hevc_pen.proofs.remainder.put_remainder.Statement.{statement}
 use Rattle.hevc_pen.proofs.remainder.put_remainder.Tie as tie

@@ -1,6 +1,6 @@
 -- `read_bins_plain` meets its contract. Assumes nothing.
 use mathlib.Core.Path.{sym, _∙_}
-use Rattle.hevc_plain.specs.PlainCode.{bins-first, bins-left}
+use Rattle.hevc_plain_checks.specs.PlainCode.{bins-first, bins-left}
 use borrow.Author.Needs.{needs}
 use Rattle.hevc_plain_coding.proofs.entries.read_bins_plain.Statement.{statement}
 use Rattle.hevc_plain_coding.proofs.entries.read_bins_plain.Tie as tie

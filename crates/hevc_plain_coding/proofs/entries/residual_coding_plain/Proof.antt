@@ -1,6 +1,6 @@
 -- `residual_coding_plain` meets its contract. Assumes nothing.
 use mathlib.Core.Path.{sym, _∙_}
-use Rattle.hevc_plain.specs.PlainCode.{payload-first, payload-second, payload-left}
+use Rattle.hevc_plain_checks.specs.PlainCode.{payload-first, payload-second, payload-left}
 use borrow.Author.Needs.{needs}
 use Rattle.hevc_plain_coding.proofs.entries.residual_coding_plain.Statement.{statement}
 use Rattle.hevc_plain_coding.proofs.entries.residual_coding_plain.Tie as tie

@@ -1,6 +1,6 @@
 -- `write_bins_plain` meets its contract. Assumes nothing.
 use mathlib.Core.Path.{sym, _∙_}
-use Rattle.hevc_plain.specs.PlainCode.{write-first, write-left}
+use Rattle.hevc_plain_checks.specs.PlainCode.{write-first, write-left}
 use borrow.Author.Needs.{needs}
 use Rattle.hevc_plain_coding.proofs.entries.write_bins_plain.Statement.{statement}
 use Rattle.hevc_plain_coding.proofs.entries.write_bins_plain.Tie as tie

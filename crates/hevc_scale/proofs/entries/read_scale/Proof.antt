@@ -6,7 +6,7 @@ use Rattle.bins.specs.declared.state.Interval.{Interval}
 use Rattle.bins.specs.Interval.{opened, Goes}
 use Rattle.hevc_elements.specs.Agree.{from}
 use Rattle.hevc_cross.specs.Scale.{scaleS}
-use Rattle.hevc_scale.specs.Agree.{nothing, SaysScale}
+use Rattle.hevc_scale_syntax.specs.Agree.{nothing, SaysScale}
 use Rattle.hevc_scale.specs.EntriesAgree.{payloadChecks}
 use Rattle.hevc_scale.specs.EntriesLaws.{payload-no, checks-passed, payload-refused, payload-got, scaled-number}
 use borrow.Author.Needs.{needs}

@@ -4,8 +4,15 @@ use borrow.Author.Needs.{needs}
 use Rattle.hevc_tray_reader.proofs.entries.read_tray.Statement.{statement}
 use Rattle.hevc_tray_reader.proofs.entries.read_tray.Tie as tie
 
+-- a tray with records, as its checks were done
+abbrev begun : tie.After-tray-checks → tie.Else1
+begun c = c .before .before .before .before .before .before
+
 returns : tie.Need-returns
-returns c = rows-none (c .before .before .args .bytes .now) (c .before .before .args .e) (c .before .before .args .contexts .now) (c .before .before .args .stats .now) (c .before .before .args .records .now) (c .before .before .args .levels .now) (c .before .before .args .found .now) (c .if1 .taken)
+returns c =
+    let b = c .before .before in
+    rows-none (b .args .bytes .now) (b .args .e) (b .args .contexts .now) (b .args .stats .now) (b .args .records .now) (b .args .levels .now) (b .args .found .now)
+    (c .if1 .taken)
 
 tray-checks-requires : tie.Need-tray-checks-requires
 tray-checks-requires c κs = search needs
@@ -14,7 +21,10 @@ same-length : tie.Need-same-length
 same-length c = search needs
 
 returns-2 : tie.Need-returns-2
-returns-2 c = rows-refused (c .before .before .before .before .before .before .before .before .before .args .bytes .now) (c .before .before .before .before .before .before .before .before .before .args .e) (c .before .before .before .before .before .before .before .before .before .args .contexts .now) (c .before .before .before .before .before .before .before .before .before .args .stats .now) (c .before .before .before .before .before .before .before .before .before .args .records .now) (c .before .before .before .before .before .before .before .before .before .args .levels .now) (c .before .before .before .before .before .before .before .before .before .args .found .now) (c .before .before .before .before .before .before .before .if1 .left) (c .before .tray-checks .result) (c .before .tray-checks .ensures) (c .if2 .taken)
+returns-2 c =
+    let b = begun (c .before) .before .before in
+    rows-refused (b .args .bytes .now) (b .args .e) (b .args .contexts .now) (b .args .stats .now) (b .args .records .now) (b .args .levels .now) (b .args .found .now)
+    (begun (c .before) .if1 .left) (c .before .tray-checks .result) (c .before .tray-checks .ensures) (c .if2 .taken)
 
 read-blocks-requires : tie.Need-read-blocks-requires
 read-blocks-requires c κs = search needs

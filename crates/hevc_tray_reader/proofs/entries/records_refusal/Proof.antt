@@ -13,10 +13,21 @@ use Rattle.hevc_tray_reader.proofs.entries.records_refusal.Statement.{s
 use Rattle.hevc_tray_reader.proofs.entries.records_refusal.Tie as tie
 
 abbrev Inv-loop : tie.InvT-loop
-Inv-loop records levels at₀ i₀ at i = (i ≤ length records) × (at ≤ length levels) × (recordsRefusal (recordsOf (drop i records)) (drop at levels) ≡ recordsRefusal (recordsOf records) levels)
+Inv-loop records levels at₀ i₀ at i =
+    (i ≤ length records) × (at ≤ length levels) × (recordsRefusal (recordsOf (drop i records)) (drop at levels) ≡ recordsRefusal (recordsOf records) levels)
 
 abbrev μ-loop : tie.MeasureT-loop
 μ-loop records levels at₀ i₀ at i = length records - i
+
+-- the start of the function, of the loop, and the turn that looked at a record
+abbrev start : tie.In-loop Inv-loop μ-loop → tie.Start Inv-loop μ-loop
+start c = c .before .before
+
+abbrev turn : tie.After-params-of Inv-loop μ-loop → tie.In-loop Inv-loop μ-loop
+turn c = c .before .before
+
+abbrev looked : tie.After-parameter-refusal Inv-loop μ-loop → tie.After-params-of Inv-loop μ-loop
+looked c = c .before .before
 
 loop-holds : tie.Need-loop-holds Inv-loop μ-loop
 loop-holds c = (omega arith, omega arith, refl)
@@ -34,10 +45,10 @@ mul-parameter-refusal : tie.Need-mul-parameter-refusal Inv-loop μ-loop
 mul-parameter-refusal c = search needs
 
 sub-parameter-refusal : tie.Need-sub-parameter-refusal Inv-loop μ-loop
-sub-parameter-refusal c = c .before .before .before .loop .inv .1
+sub-parameter-refusal c = turn c .before .loop .inv .1
 
 part-parameter-refusal-start : tie.Need-part-parameter-refusal-start Inv-loop μ-loop
-part-parameter-refusal-start c = c .before .before .before .loop .inv .1
+part-parameter-refusal-start c = turn c .before .loop .inv .1
 
 part-parameter-refusal-end : tie.Need-part-parameter-refusal-end Inv-loop μ-loop
 part-parameter-refusal-end c = omega arith
@@ -46,13 +57,29 @@ parameter-refusal-requires : tie.Need-parameter-refusal-requires Inv-loop μ-loo
 parameter-refusal-requires c κs = tt
 
 returns : tie.Need-returns Inv-loop μ-loop
-returns c = let t = c .before .before .before .before .before .before .loop in records-bad (c .before .before .before .before .before .before .before .args .records .now) (c .before .before .before .before .before .before .before .args .levels .now) (t .i) (t .at) (t .inv .2) (omega arith) (c .before .before .before .params-of .result) (c .before .before .before .params-of .ensures) (c .before .parameter-refusal .result) (c .before .parameter-refusal .ensures) (c .if1 .taken)
+returns c =
+    let b = turn (looked (c .before)) in
+    let t = b .before .loop in
+    records-bad (start b .args .records .now) (start b .args .levels .now) (t .i) (t .at) (t .inv .2) (omega arith) (looked (c .before) .params-of .result)
+    (looked (c .before) .params-of .ensures) (c .before .parameter-refusal .result) (c .before .parameter-refusal .ensures) (c .if1 .taken)
 
 area-of-requires : tie.Need-area-of-requires Inv-loop μ-loop
-area-of-requires c κs = let t = c .before .before .before .before .before .before .loop in let g = records-fine (c .before .before .before .before .before .before .before .args .records .now) (c .before .before .before .before .before .before .before .args .levels .now) (t .i) (t .at) (t .inv .2) (omega arith) (c .before .before .before .params-of .result) (c .before .before .before .params-of .ensures) (c .before .parameter-refusal .result) (c .before .parameter-refusal .ensures) (c .if1 .left) (t .inv .1) in (g .0 .least, g .0 .most)
+area-of-requires c κs =
+    let b = turn (looked (c .before)) in
+    let t = b .before .loop in
+    let g = records-fine (start b .args .records .now) (start b .args .levels .now) (t .i) (t .at) (t .inv .2) (omega arith) (looked (c .before) .params-of .result)
+    (looked (c .before) .params-of .ensures) (c .before .parameter-refusal .result) (c .before .parameter-refusal .ensures) (c .if1 .left) (t .inv .1) in
+    (g .0 .least, g .0 .most)
 
 add-at : tie.Need-add-at Inv-loop μ-loop
-add-at c = let t = c .before .before .before .before .before .before .before .loop in let g = records-fine (c .before .before .before .before .before .before .before .before .args .records .now) (c .before .before .before .before .before .before .before .before .args .levels .now) (t .i) (t .at) (t .inv .2) (omega arith) (c .before .before .before .before .params-of .result) (c .before .before .before .before .params-of .ensures) (c .before .before .parameter-refusal .result) (c .before .before .parameter-refusal .ensures) (c .before .if1 .left) (t .inv .1) in let h : t .at + c .area-of .result ≤ length (c .before .before .before .before .before .before .before .before .args .levels .now) = omega (arith, g .1, c .area-of .ensures) in search needs
+add-at c =
+    let b = looked (c .before .before) in
+    let d = start (turn b) in
+    let t = turn b .before .loop in
+    let g = records-fine (d .args .records .now) (d .args .levels .now) (t .i) (t .at) (t .inv .2) (omega arith) (b .params-of .result) (b .params-of .ensures)
+    (c .before .before .parameter-refusal .result) (c .before .before .parameter-refusal .ensures) (c .before .if1 .left) (t .inv .1) in
+    let h : t .at + c .area-of .result ≤ length (d .args .levels .now) = omega (arith, g .1, c .area-of .ensures) in
+    search needs
 
 add-i : tie.Need-add-i Inv-loop μ-loop
 add-i c = search needs
@@ -61,10 +88,24 @@ loop-less : tie.Need-loop-less Inv-loop μ-loop
 loop-less c = omega arith
 
 loop-again : tie.Need-loop-again Inv-loop μ-loop
-loop-again c = let t = c .before .before .before .before .before .before .before .loop in let g = records-fine (c .before .before .before .before .before .before .before .before .args .records .now) (c .before .before .before .before .before .before .before .before .args .levels .now) (t .i) (t .at) (t .inv .2) (omega arith) (c .before .before .before .before .params-of .result) (c .before .before .before .before .params-of .ensures) (c .before .before .parameter-refusal .result) (c .before .before .parameter-refusal .ensures) (c .before .if1 .left) (t .inv .1) in (omega arith, omega (arith, g .1, c .area-of .ensures), records-on (c .before .before .before .before .before .before .before .before .args .records .now) (c .before .before .before .before .before .before .before .before .args .levels .now) (t .i) (t .at) (t .inv .2) (omega arith) (c .before .before .before .before .params-of .result) (c .before .before .before .before .params-of .ensures) (c .before .before .parameter-refusal .result) (c .before .before .parameter-refusal .ensures) (c .before .if1 .left) (c .area-of .result) (c .area-of .ensures))
+loop-again c =
+    let b = c .before .before in
+    let d = looked b in
+    let m = start (turn d) in
+    let t = turn d .before .loop in
+    let g = records-fine (m .args .records .now) (m .args .levels .now) (t .i) (t .at) (t .inv .2) (omega arith) (d .params-of .result) (d .params-of .ensures)
+    (b .parameter-refusal .result) (b .parameter-refusal .ensures) (c .before .if1 .left) (t .inv .1) in (
+      omega arith,
+      omega (arith, g .1, c .area-of .ensures),
+      records-on (m .args .records .now) (m .args .levels .now) (t .i) (t .at) (t .inv .2) (omega arith)
+          (d .params-of .result) (d .params-of .ensures) (b .parameter-refusal .result) (b .parameter-refusal .ensures) (c .before .if1 .left) (c .area-of .result)
+          (c .area-of .ensures),
+    )
 
 returns-2 : tie.Need-returns-2 Inv-loop μ-loop
-returns-2 c = let t = c .before .loop in records-end (c .before .before .args .records .now) (c .before .before .args .levels .now) (t .i) (t .at) (t .inv .2) (omega arith)
+returns-2 c =
+    let t = c .before .loop in
+    records-end (c .before .before .args .records .now) (c .before .before .args .levels .now) (t .i) (t .at) (t .inv .2) (omega arith)
 
 pub records-refusal-spec : {M : Type 1} → statement M
 records-refusal-spec =

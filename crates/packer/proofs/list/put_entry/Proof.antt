@@ -1,16 +1,16 @@
 use native.Mathlib.Omega.{arith}
 use mathlib.Core.Path.{refl}
 use Prim.Native.Nat.{_/_}
-use Rattle.packer.specs.Register.{registerOf}
+use Rattle.packer_steps.specs.Register.{registerOf}
 use Rattle.packer.specs.WalkLaws.{entry-context, entry-none, entry-bypass, entry-align}
 use borrow.Author.Needs.{needs}
 use Rattle.packer.proofs.list.put_entry.Statement.{statement}
 use Rattle.packer.proofs.list.put_entry.Tie as tie
 use Rattle.packer.proofs.list.put_entry.Reads as reads
 use Rattle.packer.proofs.list.put_entry.Lts as lts
-use Rattle.packer.proofs.coder.align.Reads as align-reads
-use Rattle.packer.proofs.coder.bypass.Reads as bypass-reads
-use Rattle.packer.proofs.coder.decision.Reads as decision-reads
+use Rattle.packer_steps.proofs.coder.align.Reads as align-reads
+use Rattle.packer_steps.proofs.coder.bypass.Reads as bypass-reads
+use Rattle.packer_steps.proofs.coder.decision.Reads as decision-reads
 
 -- src/list.rt:48:16
 mul-if1 : tie.Need-mul-if1

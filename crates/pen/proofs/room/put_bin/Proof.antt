@@ -7,6 +7,10 @@ use borrow.Author.Needs.{needs}
 use Rattle.pen.proofs.room.put_bin.Statement.{statement}
 use Rattle.pen.proofs.room.put_bin.Tie as tie
 
+-- the start of the function, behind the entry that was put
+abbrev start : tie.After-put-entry → tie.Start
+start c = c .before .before .before .before
+
 cast-tag : tie.Need-cast-tag
 cast-tag c = search needs
 
@@ -26,7 +30,10 @@ same-length : tie.Need-same-length
 same-length c = search needs
 
 returns : tie.Need-returns
-returns c = let a = c .before .before .before .before .before .before .args in c .before .before .put-entry .ensures ∙ ap (λ x. entered (2 * a .number + x) (sheet (a .room .now) (a .pen))) (c .before .before .before .before .bin-number .ensures .0)
+returns c =
+    let b = c .before .before in
+    let a = start b .args in
+    b .put-entry .ensures ∙ ap (λ x. entered (2 * a .number + x) (sheet (a .room .now) (a .pen))) (b .before .before .bin-number .ensures .0)
 
 pub put-bin-spec : {M : Type 1} → statement M
 put-bin-spec =

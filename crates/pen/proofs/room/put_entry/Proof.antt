@@ -6,6 +6,13 @@ use borrow.Author.Needs.{needs}
 use Rattle.pen.proofs.room.put_entry.Statement.{statement}
 use Rattle.pen.proofs.room.put_entry.Tie as tie
 
+-- the start of the function, and the first byte put
+abbrev start : tie.After-put → tie.Start
+start c = c .before .before .before
+
+abbrev low : tie.After-put2 → tie.After-put
+low c = c .before .before .before .before
+
 cast-put : tie.Need-cast-put
 cast-put c = search needs
 
@@ -22,7 +29,12 @@ same-length : tie.Need-same-length
 same-length c = search needs
 
 returns : tie.Need-returns
-returns c = let a = c .before .before .before .before .before .before .before .before .before .args in let p = c .before .before .before .before .before .before .put in let q = c .before .before .put2 in entered-two (a .t) _ _ (sheet (a .room .now) (a .pen)) (sheet (p .last .0) (p .result)) (sheet (q .last .0) (q .result)) refl refl (p .ensures) (q .ensures)
+returns c =
+    let b = c .before .before in
+    let a = start (low b) .args in
+    let p = low b .put in
+    let q = b .put2 in
+    entered-two (a .t) _ _ (sheet (a .room .now) (a .pen)) (sheet (p .last .0) (p .result)) (sheet (q .last .0) (q .result)) refl refl (p .ensures) (q .ensures)
 
 pub put-entry-spec : {M : Type 1} → statement M
 put-entry-spec =

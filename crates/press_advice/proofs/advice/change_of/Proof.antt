@@ -5,7 +5,7 @@ use mathlib.Core.Path.{sym, refl, _∙_}
 use mir.Syntax.{w32}
 use mir.Val.{SFits}
 use mir.Facts.{toZ-ofZ}
-use Rattle.press_advice.specs.StrokeLaws.{area-few, taken-least, taken-most}
+use Rattle.press_strokes.specs.StrokeLaws.{area-few, taken-least, taken-most}
 use Rattle.press_advice.specs.AdviceLaws.{passed, wide, suggested, nothing-taken}
 use Rattle.press_advice.proofs.advice.change_of.Statement.{statement}
 use Rattle.press_advice.proofs.advice.change_of.Tie as tie

@@ -3,7 +3,7 @@ use borrow.Author.Needs.{needs}
 use native.Mathlib.Omega.{arith}
 use mathlib.Core.Path.{sym}
 use Rattle.hevc_residual.specs.LimitLaws.{range-small}
-use Rattle.press_advice.specs.StrokeLaws.{area-few}
+use Rattle.press_strokes.specs.StrokeLaws.{area-few}
 use Rattle.press_advice.specs.AdviceLaws.{far-found}
 use Rattle.press_advice.proofs.advice.far_place.Statement.{statement}
 use Rattle.press_advice.proofs.advice.far_place.Tie as tie

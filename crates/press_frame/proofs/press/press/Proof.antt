@@ -8,17 +8,33 @@ use Rattle.press_frame.specs.PressCode.{refused-first, list-fits, list-c
 use Rattle.press_frame.proofs.press.press.Statement.{statement}
 use Rattle.press_frame.proofs.press.press.Tie as tie
 
+-- the start of the function, and the call before each call: parameters, the writer with its answer, the packer
+abbrev start : tie.After-handed-refusal → tie.Start
+start c = c .before .before .before .before
+
+abbrev asked : tie.After-write-bins → tie.After-params
+asked c = c .before .before .before
+
+abbrev listed : tie.After-w → tie.After-write-bins
+listed c = c .before .before .before
+
+abbrev unlisted : tie.After-w2 → tie.After-write-bins
+unlisted c = c .before .before .before
+
+abbrev packed : tie.After-slice-known2 → tie.After-w
+packed c = c .before .before .before .before .before .before
+
 handed-refusal-requires : tie.Need-handed-refusal-requires
 handed-refusal-requires c κs = search needs
 
 returns : tie.Need-returns
 returns c =
-    let a = c .before .before .before .before .before .args in
+    let a = start (c .before) .args in
     (refused-first (length (a .room .now)) _ (a .head .now) (a .values .now) (a .levels .now) (c .before .handed-refusal .ensures) (c .if1 .taken), refl)
 
 params-requires : tie.Need-params-requires
 params-requires c κs =
-    let a = c .before .before .before .before .before .args in
+    let a = start (c .before) .args in
     let h = handed (length (a .room .now)) (a .head .now) (a .values .now) (sym (c .before .handed-refusal .ensures) ∙ c .if1 .left) in
     omega (arith, h .six)
 
@@ -32,15 +48,25 @@ enum-known-w : tie.Need-enum-known-w
 enum-known-w c = search needs
 
 array-share-prefix-list : tie.Need-array-share-prefix-list
-array-share-prefix-list c = let a = c .before .before .before .before .before .before .before .before .before .before .before .before .before .args in list-fits (length (a .room .now)) _ (a .head .now) (a .values .now) (a .levels .now) (c .before .before .before .before .before .before .before .before .before .handed-refusal .ensures) (c .before .before .before .before .before .before .before .before .if1 .left) _ (c .before .before .before .before .before .before .before .params .ensures) _ _ _ (c .before .before .before .before .write-bins .ensures .0) _ (c .before .w .given .1)
+array-share-prefix-list c =
+    let b = asked (listed (c .before)) .before in
+    let a = start (b .before) .args in
+    list-fits (length (a .room .now)) _ (a .head .now) (a .values .now) (a .levels .now) (b .before .handed-refusal .ensures) (b .if1 .left) _
+    (asked (listed (c .before)) .params .ensures) _ _ _ (listed (c .before) .write-bins .ensures .0) _ (c .before .w .given .1)
 
 slice-aggregate-pack-drawing : tie.Need-slice-aggregate-pack-drawing
-slice-aggregate-pack-drawing c = let a = c .before .before .before .before .before .before .before .before .before .before .before .before .before .before .args in list-count (length (a .room .now)) _ (a .head .now) (a .values .now) (a .levels .now) (c .before .before .before .before .before .before .before .before .before .before .handed-refusal .ensures) (c .before .before .before .before .before .before .before .before .before .if1 .left) _ (c .before .before .before .before .before .before .before .before .params .ensures) _ _ _ (c .before .before .before .before .before .write-bins .ensures .0) _ (c .before .before .w .given .1)
+slice-aggregate-pack-drawing c =
+    let b = c .before .before in
+    let d = asked (listed b) .before in
+    let a = start (d .before) .args in
+    list-count (length (a .room .now)) _ (a .head .now) (a .values .now) (a .levels .now) (d .before .handed-refusal .ensures) (d .if1 .left) _
+    (asked (listed b) .params .ensures) _ _ _ (listed b .write-bins .ensures .0) _ (b .w .given .1)
 
 pack-drawing-requires : tie.Need-pack-drawing-requires
 pack-drawing-requires c κs =
-    let a = c .before .before .before .before .before .before .before .before .before .before .before .before .before .before .before .args in
-    let h = handed (length (a .room .now)) (a .head .now) (a .values .now) (sym (c .before .before .before .before .before .before .before .before .before .before .before .handed-refusal .ensures) ∙ c .before .before .before .before .before .before .before .before .before .before .if1 .left) in
+    let b = asked (listed (c .before .before .before)) .before in
+    let a = start (b .before) .args in
+    let h = handed (length (a .room .now)) (a .head .now) (a .values .now) (sym (b .before .handed-refusal .ensures) ∙ b .if1 .left) in
     (h .six, h .many, h .wide)
 
 enum-known-w-2 : tie.Need-enum-known-w-2
@@ -51,14 +77,24 @@ same-length c = search needs
 
 returns-2 : tie.Need-returns-2
 returns-2 c =
-    let a = c .before .before .before .before .before .before .before .before .before .before .before .before .before .before .before .before .before .before .args in
-    let x = c .before .before .pack-drawing .ensures in
-    (list-said (length (a .room .now)) _ (a .head .now) (a .values .now) (a .levels .now) (c .before .before .before .before .before .before .before .before .before .before .before .before .before .before .handed-refusal .ensures) (c .before .before .before .before .before .before .before .before .before .before .before .before .before .if1 .left) _ (c .before .before .before .before .before .before .before .before .before .before .before .before .params .ensures) _ _ _ (c .before .before .before .before .before .before .before .before .before .write-bins .ensures .0) _ _ (c .before .before .before .before .before .before .w .given .1) (x .0), x .1)
+    let b = asked (listed (packed c)) .before in
+    let a = start (b .before) .args in
+    let x = c .before .before .pack-drawing .ensures in (
+      list-said (length (a .room .now)) _ (a .head .now) (a .values .now) (a .levels .now) (b .before .handed-refusal .ensures) (b .if1 .left) _
+          (asked (listed (packed c)) .params .ensures) _ _ _ (listed (packed c) .write-bins .ensures .0) _ _ (packed c .w .given .1) (x .0),
+      x .1,
+    )
 
 returns-3 : tie.Need-returns-3
 returns-3 c =
-    let a = c .before .before .before .before .before .before .before .before .before .before .before .before .before .args in
-    (list-no (length (a .room .now)) _ (a .head .now) (a .values .now) (a .levels .now) (c .before .before .before .before .before .before .before .before .before .handed-refusal .ensures) (c .before .before .before .before .before .before .before .before .if1 .left) _ (c .before .before .before .before .before .before .before .params .ensures) _ _ _ (c .before .before .before .before .write-bins .ensures .0) _ (c .before .w2 .given .1), refl)
+    let b = asked (unlisted (c .before)) .before in
+    let a = start (b .before) .args in (
+      list-no (length (a .room .now)) _ (a .head .now) (a .values .now) (a .levels .now) (b .before .handed-refusal .ensures) (b .if1 .left) _
+          (asked (unlisted (c .before)) .params .ensures) _ _ _ (unlisted (c .before) .write-bins .ensures .0) _ (c .before .w2 .given .1),
+      refl,
+    )
 
 pub press-spec : {M : Type 1} → statement M
-press-spec = tie.close (tie.spec handed-refusal-requires returns params-requires slice-aggregate-write-bins write-bins-requires enum-known-w array-share-prefix-list slice-aggregate-pack-drawing pack-drawing-requires enum-known-w-2 same-length returns-2 returns-3)
+press-spec =
+    tie.close (tie.spec handed-refusal-requires returns params-requires slice-aggregate-write-bins write-bins-requires enum-known-w array-share-prefix-list
+    slice-aggregate-pack-drawing pack-drawing-requires enum-known-w-2 same-length returns-2 returns-3)

@@ -1,0 +1,3 @@
+pub mod MagnitudePuts
+pub mod PlacePuts
+pub mod LevelPuts

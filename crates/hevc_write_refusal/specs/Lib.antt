@@ -1,0 +1,2 @@
+pub mod RefusalAgree
+pub mod RefusalLaws

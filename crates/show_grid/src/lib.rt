@@ -1,0 +1,2 @@
+// A block as a grid of text.
+pub mod grid; // grid.rt: the levels
