@@ -7,7 +7,7 @@ fn answered(frames: &[Vec<u8>]) -> String {
         let line: String = frame.iter().map(|b| format!("{b:02x}")).collect();
         book.feed(format!("{line}\n").as_bytes(), &mut answers);
     }
-    book.end(&mut answers);
+    book.finish(&mut answers);
     String::from_utf8(answers).unwrap()
 }
 
