@@ -130,22 +130,20 @@ def scales(folder):
             yield f"crosswrite component={component} scale={scale} room={length - 1} => answer=12"
 
 
-def tables(folder):
+def tables(folder, letter, record):
+    """Contexts of real streams, from what they are made of: the lines of init.txt that begin with the letter."""
+    for line in lines_of(folder, "init.txt"):
+        fields = line.split(" ")
+        if fields[0] == letter:
+            _, _, q, made_of, contexts = fields
+            yield f"{record.format(q=q, made_of=made_of)} => answer=0 ctx={contexts}"
+
+
+def all_tables(folder):
     yield "# initial values of real streams"
-    for line in lines_of(folder, "init.txt"):
-        fields = line.split(" ")
-        if fields[0] == "I":
-            _, _, q, values, contexts = fields
-            yield f"init values={values} q={q} => answer=0 ctx={contexts}"
-
-
-def h264_tables(folder):
+    yield from tables(folder, "I", "init values={made_of} q={q}")
     yield "# H.264: contexts of real streams, from their pairs"
-    for line in lines_of(folder, "init.txt"):
-        fields = line.split(" ")
-        if fields[0] == "J":
-            _, _, q, pairs, contexts = fields
-            yield f"h264init q={q} pairs={pairs} => answer=0 ctx={contexts}"
+    yield from tables(folder, "J", "h264init q={q} pairs={made_of}")
 
 
 def h264_blocks(folder):
@@ -210,7 +208,7 @@ def main():
     if not every:
         kept = lines_of(name)
         kept = kept[: kept.index(MARK) + 1]
-    written = [*requests(folder), *tables(folder), *h264_tables(folder), *slices(folder, every), *scales(folder), *h264_blocks(folder)]
+    written = [*requests(folder), *all_tables(folder), *slices(folder, every), *scales(folder), *h264_blocks(folder)]
     written += [*blocks(folder, every), *plain_blocks(folder, every), *packs(folder)]
     for name_of_more in more if not every else ():
         written += lines_of(name_of_more)
