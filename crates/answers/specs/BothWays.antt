@@ -13,13 +13,13 @@ use Rattle.hevc_residual.specs.declared.params.Rdpcm.{Rdpcm}
 use Rattle.hevc_residual.specs.Wanted.{area}
 use Rattle.hevc_residual.specs.Entries.{Found, blockWith, BinsRead, readBins, BinsWritten, writeBins}
 use Rattle.hevc_exact.specs.Exact.{ReadAgain, write-read, read-write}
-use Rattle.hevc_reader.specs.declared.entries.ReadList.{ReadList}
-use Rattle.hevc_reader.specs.EntriesAgree.{foundSeen, binsRead}
-use Rattle.hevc_reader.specs.declared.entries.ReadList.the-variants as readlist
-use Rattle.hevc_block.specs.declared.block.Found as code
-use Rattle.hevc_writer.specs.declared.entries.Written.{Written}
-use Rattle.hevc_writer.specs.declared.entries.Written.the-variants as listed
-use Rattle.hevc_writer.specs.EntriesPuts.{writtenSays, binsWritten}
+use Rattle.hevc_residual.specs.declared.answers.ReadList.{ReadList}
+use Rattle.hevc_residual.specs.Answers.{foundSeen, binsRead}
+use Rattle.hevc_residual.specs.declared.answers.ReadList.the-variants as readlist
+use Rattle.hevc_residual.specs.declared.answers.Found as code
+use Rattle.hevc_residual.specs.declared.answers.Written.{Written}
+use Rattle.hevc_residual.specs.declared.answers.Written.the-variants as listed
+use Rattle.hevc_residual.specs.Answers.{writtenSays, binsWritten}
 use Rattle.hevc_writer.specs.Demand3.{told-list}
 
 module _ (p : Params) (stats : List ℕ) (block : List ℤ) (skip : Bool) (rdpcm : Rdpcm) (room : List ℕ) (r : Written) (stats′ room′ : List ℕ)

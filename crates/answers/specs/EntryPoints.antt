@@ -14,11 +14,11 @@ use Rattle.cabac.specs.declared.answers.Bins.{Bins}
 use Rattle.hevc_residual.specs.declared.params.Params.{Params}
 use Rattle.hevc_residual.specs.declared.params.Rdpcm.{Rdpcm}
 use Rattle.hevc_residual.specs.Entries.{readPayload, readBins, writeBins}
-use Rattle.hevc_reader.specs.declared.entries.Read.{Read}
-use Rattle.hevc_reader.specs.declared.entries.ReadList.{ReadList}
-use Rattle.hevc_reader.specs.EntriesAgree.{payloadRead, binsRead}
-use Rattle.hevc_writer.specs.declared.entries.Written.{Written}
-use Rattle.hevc_writer.specs.EntriesPuts.{binsWritten}
+use Rattle.hevc_residual.specs.declared.answers.Read.{Read}
+use Rattle.hevc_residual.specs.declared.answers.ReadList.{ReadList}
+use Rattle.hevc_residual.specs.Answers.{payloadRead, binsRead}
+use Rattle.hevc_residual.specs.declared.answers.Written.{Written}
+use Rattle.hevc_residual.specs.Answers.{binsWritten}
 use Rattle.hevc_plain.specs.Plain.{readPlain, readPlainBins, writePlain, plainRecord}
 use Rattle.hevc_plain_checks.specs.declared.record.Made.{Made}
 use Rattle.hevc_plain_checks.specs.Record.{madeSays}

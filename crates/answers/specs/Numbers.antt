@@ -9,9 +9,9 @@ use Rattle.hevc_residual.specs.declared.params.Params.{Params}
 use Rattle.hevc_residual.specs.Entries.{PayloadRead, BinsRead, readPayload, readBins}
 use Rattle.hevc_bounds.specs.Among.{among}
 use Rattle.hevc_bounds.specs.EntryNumbers as blocks
-use Rattle.hevc_reader.specs.declared.entries.Read.the-variants as ofRead
-use Rattle.hevc_reader.specs.declared.entries.ReadList.the-variants as ofList
-use Rattle.hevc_reader.specs.EntriesAgree.{payloadRead, binsRead}
+use Rattle.hevc_residual.specs.declared.answers.Read.the-variants as ofRead
+use Rattle.hevc_residual.specs.declared.answers.ReadList.the-variants as ofList
+use Rattle.hevc_residual.specs.Answers.{payloadRead, binsRead}
 use Rattle.hevc_cross.specs.Entries as scales
 use Rattle.hevc_scale.specs.EntriesAgree as scaled
 use Rattle.hevc_cross.specs.ScaleNumbers as numbers

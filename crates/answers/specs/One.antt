@@ -14,15 +14,15 @@ use Rattle.cabac.specs.declared.answers.Decision.the-variants as ofDecision
 use Rattle.cabac.specs.declared.answers.Bins.{Bins}
 use Rattle.cabac.specs.declared.answers.Bins.the-variants as ofBins
 use Rattle.hevc_residual.specs.Entries.{Found, FoundAt, PayloadRead, BinsRead, BinsWritten}
-use Rattle.hevc_block.specs.declared.block.Found as code
-use Rattle.hevc_reader.specs.declared.entries.Read.{Read}
-use Rattle.hevc_reader.specs.declared.entries.Read.the-variants as ofRead
-use Rattle.hevc_reader.specs.declared.entries.ReadList.{ReadList}
-use Rattle.hevc_reader.specs.declared.entries.ReadList.the-variants as ofList
-use Rattle.hevc_reader.specs.EntriesAgree.{foundSeen, payloadRead, binsRead}
-use Rattle.hevc_writer.specs.declared.entries.Written.{Written}
-use Rattle.hevc_writer.specs.declared.entries.Written.the-variants as ofWritten
-use Rattle.hevc_writer.specs.EntriesPuts.{writtenSays, binsWritten}
+use Rattle.hevc_residual.specs.declared.answers.Found as code
+use Rattle.hevc_residual.specs.declared.answers.Read.{Read}
+use Rattle.hevc_residual.specs.declared.answers.Read.the-variants as ofRead
+use Rattle.hevc_residual.specs.declared.answers.ReadList.{ReadList}
+use Rattle.hevc_residual.specs.declared.answers.ReadList.the-variants as ofList
+use Rattle.hevc_residual.specs.Answers.{foundSeen, payloadRead, binsRead}
+use Rattle.hevc_residual.specs.declared.answers.Written.{Written}
+use Rattle.hevc_residual.specs.declared.answers.Written.the-variants as ofWritten
+use Rattle.hevc_residual.specs.Answers.{writtenSays, binsWritten}
 use Rattle.hevc_plain_checks.specs.declared.record.Made.{Made}
 use Rattle.hevc_plain_checks.specs.declared.record.Made.the-variants as ofMade
 use Rattle.hevc_plain_checks.specs.Record.{madeSays}

@@ -4,7 +4,7 @@ use bins::state::Interval;
 use bins::state::Step;
 use bins::state::step_of;
 use list_source::list;
-use payload_source::payload;
+use payload_bypass::bypass;
 ghost use mathlib.Core.Path.{_≡_};
 ghost use Prim.Native.Nat.{_≤_};
 ghost use Rattle.bins.specs.Sources.{Readable, stepOfBits, bitsFrom};
@@ -38,7 +38,7 @@ pub fn decode_bypass_bits_by_parts(
     if list {
         return list::bypass_bits(bytes, x, n);
     }
-    let t = payload::bypass_bits(bytes, x, n);
+    let t = bypass::bypass_bits(bytes, x, n);
     step_of(t)
 }
 

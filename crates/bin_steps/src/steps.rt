@@ -5,6 +5,7 @@ use bins::state::Step;
 use bins::state::step_of;
 use bins::tags::BYPASS;
 use list_source::list;
+use payload_bypass::bypass;
 use payload_source::payload;
 ghost use mathlib.Core.Path.{_≡_};
 ghost use Prim.Native.Nat.{_≤_, _<_};
@@ -37,7 +38,7 @@ pub fn decode_bypass(list: bool, bytes: &[u8], x: Interval) -> Step
     if list {
         return list::bin(bytes, BYPASS, x);
     }
-    let t = payload::bypass_one(bytes, x);
+    let t = bypass::bypass_one(bytes, x);
     step_of(t)
 }
 
@@ -49,7 +50,7 @@ pub fn decode_bypass_bits(list: bool, bytes: &[u8], x: Interval, n: u32) -> Step
 {
     if !list {
         if n <= 16 {
-            let t = payload::bypass_few(bytes, x, n);
+            let t = bypass::bypass_few(bytes, x, n);
             return step_of(t);
         }
     }

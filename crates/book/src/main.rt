@@ -3,8 +3,8 @@
 // A piece is read and fed, and what it gave is written: book_answers::answering says what that is, and that no cut into pieces matters.
 mod words; // words.rt: what standard error is told
 
-use book_answers::answering::feed;
-use book_answers::answering::finish;
+use book_answering::answering::feed;
+use book_answering::answering::finish;
 use book_answers::tally::NUMBERS;
 use book_lines::pending::Pending;
 use book_lines::pending::first;

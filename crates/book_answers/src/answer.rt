@@ -1,8 +1,5 @@
-// The answer to a line: the verdict on it, and the words for it.
-use book_lines::form::refusal;
+// The answer to a line as words.
 use frame::judge::Verdict;
-use frame::judge::judge;
-use text_fields::fields::hex_bytes;
 use text_room::put;
 use text_room::put_decimal;
 ghost use mathlib.Core.Path.{_≡_};
@@ -10,22 +7,7 @@ ghost use Prim.Native.Nat.{_+_, _≤_};
 ghost use mathlib.Core.List.{[], _∷_, _++_};
 ghost use lib.ListN.{length, take};
 ghost use Rattle.text_room.specs.Decimal.{decimal};
-ghost use Rattle.book_lines.specs.Lines.{lineOf};
-ghost use Rattle.book_answers.specs.Answers.{okWords, noWords, verdictWords, judged};
-
-// The form's number, or the verdict on the frame that the line spells.
-pub fn judge_line(line: &[u8], finished: bool) -> Verdict
-    ensures { λ r. ⌜ r ≡ judged (lineOf (now (line .entry)) finished) ⌝ }
-{
-    let n = refusal(line, finished);
-    if n != 0 {
-        return Verdict::No(n);
-    }
-    let mut bytes = [0u8; 4234];
-    hex_bytes(line, &mut bytes);
-    let k = line.len() / 2;
-    judge(&bytes[..k])
-}
+ghost use Rattle.book_answers.specs.Answers.{okWords, noWords, verdictWords};
 
 fn put_ok(greatest: u32, past: u32, out: &mut [u8], at: usize) -> usize
     requires { ⌜ at + 45 ≤ length (now out) ⌝ }

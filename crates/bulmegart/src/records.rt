@@ -1,7 +1,7 @@
 // A state and parameters as C has them: a flag is a byte, and one above 1 is answered by 4.
 use bins::places::BitPlace;
 use bins::state::Engine;
-use cabac_state::engine::payload_refusal;
+use cabac_checks::checks::payload_refusal;
 use hevc_residual::params::Params;
 use hevc_residual::params::Rdpcm;
 ghost use mathlib.Core.Path.{_≡_};

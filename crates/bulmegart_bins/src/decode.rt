@@ -1,4 +1,4 @@
-// The arithmetic engine. Each answer holds document 01's number; after a refusal its state is the one handed in.
+// A decision and a terminate bin, for C. Each answer holds document 01's number; after a refusal its state is the one handed in.
 use bulmegart::records::EngineState;
 use bulmegart::records::engine_of;
 use bulmegart::records::flag_byte;
@@ -9,16 +9,12 @@ use bulmegart_engine::engine::DecisionAnswer;
 use cabac::answers::Bins;
 use cabac::answers::Decision;
 use cabac_bins::decode::decode_bin;
-use cabac_bins::decode::decode_bypass;
-use cabac_bins::decode::decode_bypass_bits;
 use cabac_bins::decode::decode_terminate;
-use cabac_bins::decode::read_bits;
 ghost use mathlib.Core.Path.{_≡_};
 ghost use Rattle.cabac.specs.Entries.{decisionSays, binsSay};
 ghost use Rattle.cabac.specs.Entries as entries;
-ghost use Rattle.bulmegart.specs.Records.{engineOf};
+ghost use Rattle.bulmegart.specs.Records.{engineOf, behindState};
 ghost use Rattle.bulmegart_engine.specs.Exported.{decisionGiven, binsGiven};
-ghost use Rattle.bulmegart.specs.Records.{behindState};
 
 fn decision_answer(r: Decision, context: u8, s: EngineState) -> DecisionAnswer
     ensures { λ a. ⌜ a ≡ decisionGiven context s (decisionSays r) ⌝ }
@@ -39,7 +35,7 @@ fn decision_answer(r: Decision, context: u8, s: EngineState) -> DecisionAnswer
     }
 }
 
-fn bins_answer(r: Bins, s: EngineState) -> BinsAnswer
+pub fn bins_answer(r: Bins, s: EngineState) -> BinsAnswer
     ensures { λ a. ⌜ a ≡ binsGiven s (binsSay r) ⌝ }
 {
     match r {
@@ -76,32 +72,6 @@ pub extern "C" fn bulmegart_decode_bin(
 }
 
 #[no_mangle]
-pub extern "C" fn bulmegart_decode_bypass(payload: &[u8], state: EngineState) -> BinsAnswer
-    ensures { λ r. ⌜ r ≡ binsGiven state (behindState (now (payload .entry)) state (entries.bypassBits (now (payload .entry)) (engineOf state) 1)) ⌝ }
-{
-    let n = state_handed(payload, state);
-    if n != 0 {
-        return bins_answer(Bins::Refused(n), state);
-    }
-    bins_answer(decode_bypass(payload, engine_of(state)), state)
-}
-
-#[no_mangle]
-pub extern "C" fn bulmegart_decode_bypass_bits(
-    payload: &[u8],
-    state: EngineState,
-    count: u32,
-) -> BinsAnswer
-    ensures { λ r. ⌜ r ≡ binsGiven state (behindState (now (payload .entry)) state (entries.bypassBits (now (payload .entry)) (engineOf state) count)) ⌝ }
-{
-    let n = state_handed(payload, state);
-    if n != 0 {
-        return bins_answer(Bins::Refused(n), state);
-    }
-    bins_answer(decode_bypass_bits(payload, engine_of(state), count), state)
-}
-
-#[no_mangle]
 pub extern "C" fn bulmegart_decode_terminate(payload: &[u8], state: EngineState) -> BinsAnswer
     ensures { λ r. ⌜ r ≡ binsGiven state (behindState (now (payload .entry)) state (entries.terminate (now (payload .entry)) (engineOf state))) ⌝ }
 {
@@ -110,15 +80,4 @@ pub extern "C" fn bulmegart_decode_terminate(payload: &[u8], state: EngineState)
         return bins_answer(Bins::Refused(n), state);
     }
     bins_answer(decode_terminate(payload, engine_of(state)), state)
-}
-
-#[no_mangle]
-pub extern "C" fn bulmegart_read_bits(payload: &[u8], state: EngineState, count: u32) -> BinsAnswer
-    ensures { λ r. ⌜ r ≡ binsGiven state (behindState (now (payload .entry)) state (entries.raw (now (payload .entry)) (engineOf state) count)) ⌝ }
-{
-    let n = state_handed(payload, state);
-    if n != 0 {
-        return bins_answer(Bins::Refused(n), state);
-    }
-    bins_answer(read_bits(payload, engine_of(state), count), state)
 }

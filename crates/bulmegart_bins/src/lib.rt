@@ -1,2 +1,2 @@
-// What the bench links: the arithmetic engine's calls that answer bins.
+// What the bench links: a decision and a terminate bin.
 pub mod decode;

@@ -9,11 +9,11 @@ use Rattle.bins.specs.declared.state.Engine.{Engine}
 use Rattle.cabac.specs.Numbers.{accepted, refused, _orElse_, payloadRefusal}
 use Rattle.hevc_residual.specs.declared.params.Params.{Params}
 use Rattle.hevc_residual.specs.Entries.{readPayload, readBins}
-use Rattle.hevc_reader.specs.declared.entries.Read.{Read}
-use Rattle.hevc_reader.specs.declared.entries.Read.the-variants as read
-use Rattle.hevc_reader.specs.declared.entries.ReadList.{ReadList}
-use Rattle.hevc_reader.specs.declared.entries.ReadList.the-variants as readlist
-use Rattle.hevc_reader.specs.EntriesAgree.{payloadRead, binsRead}
+use Rattle.hevc_residual.specs.declared.answers.Read.{Read}
+use Rattle.hevc_residual.specs.declared.answers.Read.the-variants as read
+use Rattle.hevc_residual.specs.declared.answers.ReadList.{ReadList}
+use Rattle.hevc_residual.specs.declared.answers.ReadList.the-variants as readlist
+use Rattle.hevc_residual.specs.Answers.{payloadRead, binsRead}
 use Rattle.bulmegart.specs.declared.records.EngineState.{EngineState}
 use Rattle.bulmegart.specs.declared.records.BlockParams.{BlockParams}
 use Rattle.bulmegart.specs.Records.{stateFlags, paramsFlags, engineOf, paramsOf}

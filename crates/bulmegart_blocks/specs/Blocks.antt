@@ -6,11 +6,11 @@ use lib.IntN.{ℤ}
 use Rattle.bins.specs.Engine.{bitNo}
 use Rattle.cabac.specs.Numbers.{Answer, accepted, refused, _orElse_, payloadRefusal}
 use Rattle.hevc_residual.specs.Entries.{Found, FoundAt, PayloadRead, BinsRead, readPayload, readBins}
-use Rattle.hevc_reader.specs.declared.entries.Read.{Read}
-use Rattle.hevc_reader.specs.declared.entries.Read.the-variants as read
-use Rattle.hevc_reader.specs.declared.entries.ReadList.{ReadList}
-use Rattle.hevc_reader.specs.declared.entries.ReadList.the-variants as readlist
-use Rattle.hevc_reader.specs.EntriesAgree.{foundSeen}
+use Rattle.hevc_residual.specs.declared.answers.Read.{Read}
+use Rattle.hevc_residual.specs.declared.answers.Read.the-variants as read
+use Rattle.hevc_residual.specs.declared.answers.ReadList.{ReadList}
+use Rattle.hevc_residual.specs.declared.answers.ReadList.the-variants as readlist
+use Rattle.hevc_residual.specs.Answers.{foundSeen}
 use Rattle.bulmegart.specs.declared.records.EngineState.{EngineState}
 use Rattle.bulmegart.specs.declared.records.BlockParams.{BlockParams}
 use Rattle.bulmegart_blocks.specs.declared.blocks.BlockFound.{BlockFound}

@@ -12,8 +12,8 @@ use Rattle.hevc_residual.specs.declared.params.Params.{Params}
 use Rattle.hevc_residual.specs.declared.params.Rdpcm.{Rdpcm}
 use Rattle.hevc_residual.specs.declared.params.Rdpcm.the-variants as rdpcm
 use Rattle.hevc_residual.specs.Entries.{BinsWritten, writeBins}
-use Rattle.hevc_writer.specs.declared.entries.Written.{Written}
-use Rattle.hevc_writer.specs.EntriesPuts.{writtenSays, binsWritten}
+use Rattle.hevc_residual.specs.declared.answers.Written.{Written}
+use Rattle.hevc_residual.specs.Answers.{writtenSays, binsWritten}
 use Rattle.bulmegart.specs.declared.records.BlockParams.{BlockParams}
 use Rattle.bulmegart_blocks.specs.declared.lists.WriteAnswer.{WriteAnswer}
 use Rattle.bulmegart.specs.Records.{flagRefusal, paramsFlags, paramsOf, isSet}

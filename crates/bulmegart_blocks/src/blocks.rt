@@ -3,11 +3,11 @@ use bulmegart::records::EngineState;
 use bulmegart::records::flag_byte;
 use bulmegart::records::rdpcm_number;
 use bulmegart::records::state_of;
-use hevc_block::block::Found;
-use hevc_reader::entries::Read;
-use hevc_reader::entries::ReadList;
+use hevc_residual::answers::Found;
+use hevc_residual::answers::Read;
+use hevc_residual::answers::ReadList;
 ghost use mathlib.Core.Path.{_≡_};
-ghost use Rattle.hevc_reader.specs.EntriesAgree.{foundSeen};
+ghost use Rattle.hevc_residual.specs.Answers.{foundSeen};
 ghost use Rattle.bulmegart_blocks.specs.Blocks.{foundGiven, noFound, blockGiven, listGiven, readSays, listSays};
 
 // What document 01 gives of a block beside its levels; zeros after a refusal.

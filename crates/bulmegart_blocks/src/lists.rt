@@ -3,12 +3,12 @@ use bulmegart::records::BlockParams;
 use bulmegart::records::flag_refusal;
 use bulmegart::records::or_else;
 use bulmegart::records::params_flags;
+use hevc_residual::answers::Written;
 use hevc_residual::params::Rdpcm;
-use hevc_writer::entries::Written;
 ghost use mathlib.Core.Path.{_≡_};
 ghost use Rattle.cabac.specs.Numbers.{_orElse_};
 ghost use Rattle.bulmegart.specs.Records.{flagRefusal, paramsFlags};
-ghost use Rattle.hevc_writer.specs.EntriesPuts.{writtenSays};
+ghost use Rattle.hevc_residual.specs.Answers.{writtenSays};
 ghost use Rattle.bulmegart_blocks.specs.Lists.{choiceRefusal, choiceOf, writeGiven};
 
 // The list's length; 0 after a refusal.

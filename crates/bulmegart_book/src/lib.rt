@@ -1,8 +1,8 @@
 // The book of test pieces as functions that C and Rust call: pieces of a book in, answers out. They take anything that they can be handed;
 // include/bulmegart.h says the same for C.
+use book_answering::answering::feed;
+use book_answering::answering::finish;
 use book_answers::answering::Answering;
-use book_answers::answering::feed;
-use book_answers::answering::finish;
 use book_lines::pending::Pending;
 ghost use mathlib.Core.Path.{_≡_};
 ghost use lib.ListN.{length};

@@ -1,20 +1,16 @@
-// The arithmetic engine. Each answer holds document 01's number; after a refusal its state is the one handed in.
+// Start and restart of the arithmetic engine, for C, and the answers of all its calls. Each answer holds document 01's number; after a refusal its state is the one handed in.
 use bulmegart::records::EngineState;
 use bulmegart::records::engine_of;
 use bulmegart::records::state_handed;
 use bulmegart::records::state_of;
 use cabac::answers::State;
-use cabac_engine::engine::align_bypass;
-use cabac_engine::engine::byte_align;
-use cabac_engine::engine::rest;
 use cabac_engine::engine::restart;
 use cabac_engine::engine::start;
 ghost use mathlib.Core.Path.{_≡_};
 ghost use Rattle.cabac.specs.Entries.{stateSays};
 ghost use Rattle.cabac.specs.Entries as entries;
-ghost use Rattle.bulmegart.specs.Records.{engineOf, noState};
-ghost use Rattle.bulmegart_engine.specs.Exported.{stateGiven, stateNo, restGiven};
-ghost use Rattle.bulmegart.specs.Records.{behindState};
+ghost use Rattle.bulmegart.specs.Records.{engineOf, noState, behindState};
+ghost use Rattle.bulmegart_engine.specs.Exported.{stateGiven, stateNo};
 
 #[repr(C)]
 pub struct StateAnswer {
@@ -45,7 +41,7 @@ pub struct RestAnswer {
     pub length: usize,
 }
 
-fn state_answer(r: State, s: EngineState) -> StateAnswer
+pub fn state_answer(r: State, s: EngineState) -> StateAnswer
     ensures { λ a. ⌜ a ≡ stateGiven s (stateSays r) ⌝ }
 {
     match r {
@@ -60,7 +56,7 @@ fn state_answer(r: State, s: EngineState) -> StateAnswer
     }
 }
 
-fn state_number(r: State) -> u32
+pub fn state_number(r: State) -> u32
     ensures { λ n. ⌜ n ≡ stateNo r ⌝ }
 {
     match r {
@@ -90,28 +86,6 @@ pub extern "C" fn bulmegart_start(payload: &[u8]) -> StateAnswer
 }
 
 #[no_mangle]
-pub extern "C" fn bulmegart_align_bypass(payload: &[u8], state: EngineState) -> StateAnswer
-    ensures { λ r. ⌜ r ≡ stateGiven state (behindState (now (payload .entry)) state (entries.alignBypass (now (payload .entry)) (engineOf state))) ⌝ }
-{
-    let n = state_handed(payload, state);
-    if n != 0 {
-        return state_answer(State::Refused(n), state);
-    }
-    state_answer(align_bypass(payload, engine_of(state)), state)
-}
-
-#[no_mangle]
-pub extern "C" fn bulmegart_byte_align(payload: &[u8], state: EngineState) -> StateAnswer
-    ensures { λ r. ⌜ r ≡ stateGiven state (behindState (now (payload .entry)) state (entries.byteAlign (now (payload .entry)) (engineOf state))) ⌝ }
-{
-    let n = state_handed(payload, state);
-    if n != 0 {
-        return state_answer(State::Refused(n), state);
-    }
-    state_answer(byte_align(payload, engine_of(state)), state)
-}
-
-#[no_mangle]
 pub extern "C" fn bulmegart_restart(payload: &[u8], state: EngineState) -> StateAnswer
     ensures { λ r. ⌜ r ≡ stateGiven state (behindState (now (payload .entry)) state (entries.restart (now (payload .entry)) (engineOf state))) ⌝ }
 {
@@ -120,26 +94,4 @@ pub extern "C" fn bulmegart_restart(payload: &[u8], state: EngineState) -> State
         return state_answer(State::Refused(n), state);
     }
     state_answer(restart(payload, engine_of(state)), state)
-}
-
-// The rest of the payload behind byte alignment, as its first byte's place and its length.
-#[no_mangle]
-pub extern "C" fn bulmegart_rest(payload: &[u8], state: EngineState) -> RestAnswer
-    ensures { λ r. ⌜ r ≡ restGiven (now (payload .entry)) state ⌝ }
-{
-    let n = state_handed(payload, state);
-    if n != 0 {
-        return RestAnswer {
-            number: n,
-            first: payload.len(),
-            length: 0,
-        };
-    }
-    let e = engine_of(state);
-    let length = rest(payload, e).len();
-    RestAnswer {
-        number: state_number(byte_align(payload, e)),
-        first: payload.len() - length,
-        length,
-    }
 }

@@ -1,2 +1,2 @@
-// What the bench links: the arithmetic engine's calls that answer a state, and the answers of all.
+// What the bench links: the arithmetic engine's start and restart, and the answers of all its calls.
 pub mod engine;

@@ -9,13 +9,13 @@ use Rattle.bins.specs.declared.state.Engine.{Engine}
 use Rattle.cabac.specs.Numbers.{Answer, refused, _orElse_, payloadRefusal}
 use Rattle.hevc_residual.specs.declared.params.Params.{Params}
 use Rattle.hevc_residual.specs.declared.params.Rdpcm.{Rdpcm}
-use Rattle.hevc_reader.specs.declared.entries.Read.{Read}
-use Rattle.hevc_reader.specs.declared.entries.Read.the-variants as read
-use Rattle.hevc_reader.specs.declared.entries.ReadList.{ReadList}
-use Rattle.hevc_reader.specs.declared.entries.ReadList.the-variants as readlist
-use Rattle.hevc_reader.specs.EntriesAgree.{payloadRead, binsRead}
-use Rattle.hevc_writer.specs.declared.entries.Written.{Written}
-use Rattle.hevc_writer.specs.EntriesPuts.{writtenSays, binsWritten}
+use Rattle.hevc_residual.specs.declared.answers.Read.{Read}
+use Rattle.hevc_residual.specs.declared.answers.Read.the-variants as read
+use Rattle.hevc_residual.specs.declared.answers.ReadList.{ReadList}
+use Rattle.hevc_residual.specs.declared.answers.ReadList.the-variants as readlist
+use Rattle.hevc_residual.specs.Answers.{payloadRead, binsRead}
+use Rattle.hevc_residual.specs.declared.answers.Written.{Written}
+use Rattle.hevc_residual.specs.Answers.{writtenSays, binsWritten}
 use Rattle.hevc_plain.specs.Plain.{readPlain, readPlainBins, writePlain, plainRecord}
 use Rattle.bulmegart.specs.declared.records.EngineState.{EngineState}
 use Rattle.bulmegart.specs.declared.records.BlockParams.{BlockParams}

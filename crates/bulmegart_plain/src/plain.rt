@@ -14,7 +14,7 @@ use bulmegart_blocks::blocks::block_answer;
 use hevc_plain_checks::record::Made;
 use hevc_plain_checks::record::plain_params;
 use hevc_plain_coding::entries::residual_coding_plain;
-use hevc_reader::entries::Read;
+use hevc_residual::answers::Read;
 use hevc_residual::params::Params;
 ghost use mathlib.Core.Path.{_≡_};
 ghost use Rattle.bulmegart_blocks.specs.Blocks.{blockLeft};

@@ -1,7 +1,7 @@
 // The press as a function that C and Rust call: a drawing in, a frame of the book out. It takes anything that it can be handed;
 // include/bulmegart.h says the same for C.
+use press_drawing::press::press;
 use press_frame::press::Pressed;
-use press_frame::press::press;
 ghost use mathlib.Core.Path.{_≡_};
 ghost use Rattle.bulmegart_press.specs.Exported.{answerOf, Given};
 

@@ -10,10 +10,10 @@ use bulmegart_blocks::blocks::BlockAnswer;
 use bulmegart_blocks::blocks::ListAnswer;
 use bulmegart_blocks::blocks::block_answer;
 use bulmegart_blocks::blocks::list_answer;
-use hevc_reader::entries::Read;
-use hevc_reader::entries::ReadList;
 use hevc_reader::entries::read_bins;
 use hevc_reader::entries::residual_coding;
+use hevc_residual::answers::Read;
+use hevc_residual::answers::ReadList;
 ghost use mathlib.Core.Path.{_≡_};
 ghost use Rattle.bulmegart_blocks.specs.Blocks.{blockLeft, listLeft, readBlock, readList};
 

@@ -7,8 +7,8 @@ use lib.IntN.{ℤ, pos}
 use Rattle.bins.specs.declared.state.Engine.{Engine}
 use Rattle.cabac.specs.Numbers.{Answer, accepted, refused, _orElse_, payloadRefusal}
 use Rattle.hevc_cross.specs.Entries.{ScaleAt, PayloadRead, readPayload, readBins, BinsWritten, writeBins}
-use Rattle.hevc_writer.specs.declared.entries.Written.{Written}
-use Rattle.hevc_writer.specs.EntriesPuts.{writtenSays}
+use Rattle.hevc_residual.specs.declared.answers.Written.{Written}
+use Rattle.hevc_residual.specs.Answers.{writtenSays}
 use Rattle.hevc_scale.specs.declared.entries.Read.{Read}
 use Rattle.hevc_scale.specs.EntriesAgree.{readSays, payloadRead, binsWritten}
 use Rattle.bulmegart.specs.declared.records.EngineState.{EngineState}

@@ -6,7 +6,7 @@ use bulmegart_blocks::lists::WriteAnswer;
 use bulmegart_blocks::lists::choice_of;
 use bulmegart_blocks::lists::write_answer;
 use bulmegart_blocks::lists::write_handed;
-use hevc_writer::entries::Written;
+use hevc_residual::answers::Written;
 use hevc_writer::entries::write_bins;
 ghost use mathlib.Core.Path.{_≡_};
 ghost use Rattle.bulmegart_blocks.specs.Lists.{writeLeft, writeBlock};

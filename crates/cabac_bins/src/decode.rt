@@ -1,13 +1,9 @@
-// Bins and bits by the arithmetic engine of H.265 (CABAC), over payload and state.
+// A decision and a terminate bin by the arithmetic engine of H.265 (CABAC), over payload and state.
 use bins::state::Engine;
-use bits::fetch::fetch;
 use cabac::answers::Bins;
 use cabac::answers::Decision;
-use cabac_state::engine::behind;
-use cabac_state::engine::bins_of;
-use cabac_state::engine::count_refusal;
+use cabac_checks::checks::refusal;
 use cabac_state::engine::open;
-use cabac_state::engine::refusal;
 use cabac_state::engine::settle;
 use decision_rows::decision_entry;
 use payload_source::payload;
@@ -35,36 +31,6 @@ pub fn decode_bin(bytes: &[u8], e: Engine, ctx: u8) -> Decision
     let next = t.next;
     let state = settle(bytes, e, next);
     Decision::Bin(t.value == 1, c, state)
-}
-
-// One bypass bin.
-pub fn decode_bypass(bytes: &[u8], e: Engine) -> Bins
-    ensures { λ r. ⌜ binsSay r ≡ entries.bypassBits (now (bytes .entry)) e 1 ⌝ }
-{
-    let n = refusal(bytes, e);
-    if n != 0 {
-        return Bins::Refused(n);
-    }
-    if e.ended {
-        return Bins::Refused(6);
-    }
-    let t = payload::bypass_one(bytes, open(e));
-    bins_of(bytes, e, t)
-}
-
-// Bypass bins, 0 to 32 of them.
-pub fn decode_bypass_bits(bytes: &[u8], e: Engine, count: u32) -> Bins
-    ensures { λ r. ⌜ binsSay r ≡ entries.bypassBits (now (bytes .entry)) e count ⌝ }
-{
-    let n = count_refusal(bytes, e, count);
-    if n != 0 {
-        return Bins::Refused(n);
-    }
-    if e.ended {
-        return Bins::Refused(6);
-    }
-    let t = payload::bypass_bits(bytes, open(e), count);
-    bins_of(bytes, e, t)
 }
 
 // Terminate: 1 ends the engine, with the range less 2 and nothing drawn.
@@ -96,18 +62,4 @@ pub fn decode_terminate(bytes: &[u8], e: Engine) -> Bins
     let next = payload::renorm(bytes, open(e), range, offset);
     let state = settle(bytes, e, next);
     Bins::Read(0, state)
-}
-
-// Raw bits, 0 to 32 of them, in any phase: range and offset stay.
-pub fn read_bits(bytes: &[u8], e: Engine, count: u32) -> Bins
-    ensures { λ r. ⌜ binsSay r ≡ entries.raw (now (bytes .entry)) e count ⌝ }
-{
-    let n = count_refusal(bytes, e, count);
-    if n != 0 {
-        return Bins::Refused(n);
-    }
-    let at = e.position;
-    let drawn = fetch(bytes, at, count);
-    let value = drawn.bits;
-    Bins::Read(value, behind(bytes, e, e.range, e.offset, drawn))
 }

@@ -1,4 +1,4 @@
-// The engine's state (H.265 9.3.4.3): what is refused of it, how a reader opens it and what a caller sees of it.
+// The state opened and settled.
 use bins::fetch::Drawn;
 use bins::places::BitPlace;
 use bins::places::end_of;
@@ -16,73 +16,8 @@ ghost use lib.ListN.{length};
 ghost use Rattle.bins.specs.Bits.{ends, added};
 ghost use Rattle.bins.specs.Engine.{place};
 ghost use Rattle.bins.specs.Interval.{opened, settled};
-ghost use Rattle.cabac.specs.Numbers.{_orElse_, payloadRefusal, stateRefusal, countRefusal};
 ghost use Rattle.cabac.specs.Entries.{drawnAt, behindFetch, stateSays, binsSay};
 ghost use Rattle.cabac.specs.Entries as entries;
-
-pub fn payload_refusal(bytes: &[u8]) -> u32
-    ensures { λ r. ⌜ r ≡ payloadRefusal (now (bytes .entry)) ⌝ }
-{
-    if bytes.len() < 2 {
-        return 1;
-    }
-    if 16777216 < bytes.len() {
-        return 2;
-    }
-    0
-}
-
-pub fn state_refusal(bytes: &[u8], e: Engine) -> u32
-    requires { ⌜ length (now bytes) ≤ 16777216 ⌝ }
-    ensures { λ r. ⌜ r ≡ stateRefusal (now (bytes .entry)) e ⌝ }
-{
-    let at = e.position.0;
-    let end = end_of(bytes);
-    if end.0 < at {
-        return 3;
-    }
-    if 65535 < e.past {
-        return 3;
-    }
-    if e.ended {
-        return 0;
-    }
-    if e.range < 256 {
-        return 3;
-    }
-    if 510 < e.range {
-        return 3;
-    }
-    if e.range <= e.offset {
-        return 3;
-    }
-    0
-}
-
-// 1, 2, 3
-pub fn refusal(bytes: &[u8], e: Engine) -> u32
-    ensures { λ r. ⌜ r ≡ payloadRefusal (now (bytes .entry)) orElse stateRefusal (now (bytes .entry)) e ⌝ }
-{
-    let n = payload_refusal(bytes);
-    if n != 0 {
-        return n;
-    }
-    state_refusal(bytes, e)
-}
-
-// 1, 2, 4, 3
-pub fn count_refusal(bytes: &[u8], e: Engine, count: u32) -> u32
-    ensures { λ r. ⌜ r ≡ payloadRefusal (now (bytes .entry)) orElse countRefusal count orElse stateRefusal (now (bytes .entry)) e ⌝ }
-{
-    let n = payload_refusal(bytes);
-    if n != 0 {
-        return n;
-    }
-    if 32 < count {
-        return 4;
-    }
-    state_refusal(bytes, e)
-}
 
 // A block reader works on range, offset and place alone.
 pub fn open(e: Engine) -> Interval

@@ -1,2 +1,2 @@
-// What every entry point over a payload begins and ends with.
-pub mod engine; // engine.rt: what is refused of payload and state, the state opened and settled
+// The state that every entry point over a payload opens and settles.
+pub mod engine; // engine.rt: the state opened and settled

@@ -6,6 +6,7 @@ use bins::state::Engine;
 use bytes::scan::find;
 use cabac::answers::State;
 use cabac_engine::engine::start;
+use case_lent::lent::LIST;
 use hevc_residual::params::Params;
 use hevc_residual::params::Rdpcm;
 use text::lines::part;
@@ -13,10 +14,7 @@ use text_fields::fields::Number;
 use text_fields::fields::Octets;
 use text_fields::fields::decimal;
 use text_fields::fields::field;
-use text_fields::fields::hex_bytes;
-
-// How many bytes a payload, a list and a room have at most. The longest list of a block has 71,088.
-pub const LIST: usize = 73728;
+use text_octets::octets::hex_bytes;
 
 // How many places are lent at most: more than the largest block has, so that places behind it are seen.
 pub const PLACES: usize = 1032;

@@ -8,12 +8,12 @@ use case_blocks::blocks;
 use case_blocks::engine;
 use case_blocks::writes;
 use case_h264::h264;
+use case_lent::lent::LIST;
 use case_text::answer;
 use case_text::answer::NONE;
 use case_text::given;
 use case_text::given::Handed;
 use case_text::given::LEVELS;
-use case_text::given::LIST;
 use case_text::given::PLACES;
 use case_text::record::first;
 use case_text::record::is_by;
@@ -24,7 +24,7 @@ use case_trays::trays;
 use check::same;
 use text::lines::part;
 use text_fields::fields::Octets;
-use text_fields::fields::hex_bytes;
+use text_octets::octets::hex_bytes;
 
 // Records of requests that have not landed.
 pub fn is_later(line: &[u8]) -> bool {

@@ -21,9 +21,9 @@ mod scales; // scales.rt: cross-component scales
 mod slices; // slices.rt: whole slices, bin by bin
 mod values; // values.rt: initialisation
 
+use case_lent::lent::LIST;
 use case_text::answer::NONE;
 use case_text::answer::SHOWN;
-use case_text::given::LIST;
 use case_text::record;
 use text::lines;
 use text::lines::Line;

@@ -7,21 +7,21 @@ use bins::state::Engine;
 use bins::tags::CONTEXTS;
 use case_blocks::engine;
 use case_blocks::writes;
+use case_lent::lent::BLANK;
+use case_lent::lent::LIST;
+use case_lent::lent::room_of;
 use case_text::answer;
 use case_text::answer::NONE;
 use case_text::answer::same_contexts;
 use case_text::given;
-use case_text::given::LIST;
 use case_text::given::Signed;
-use case_text::lent::BLANK;
-use case_text::lent::room_of;
 use case_text::record::value;
+use hevc_residual::answers::Written;
 use hevc_scale::entries::Read;
 use hevc_scale::entries::ReadList;
 use hevc_scale::entries::read_scale;
 use hevc_scale::entries::read_scale_bins;
 use hevc_scale::entries::write_scale_bins;
-use hevc_writer::entries::Written;
 
 fn scaled(s: &[u8], at: usize, z: i32) -> usize {
     answer::signed(s, answer::text(s, at, b"answer=0 scale="), z)

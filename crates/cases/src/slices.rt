@@ -9,9 +9,9 @@ use cabac::answers::Bins;
 use cabac::answers::Decision;
 use cabac::answers::State;
 use cabac_bins::decode::decode_bin;
-use cabac_bins::decode::decode_bypass;
-use cabac_bins::decode::decode_bypass_bits;
 use cabac_bins::decode::decode_terminate;
+use cabac_bypass::bypass::decode_bypass;
+use cabac_bypass::bypass::decode_bypass_bits;
 use cabac_engine::engine::restart;
 use case_blocks::engine;
 use case_text::answer;
@@ -20,7 +20,7 @@ use case_text::given;
 use case_text::record::value;
 use text::lines::part;
 use text_fields::fields::Octets;
-use text_fields::fields::hex_bytes;
+use text_octets::octets::hex_bytes;
 
 // How many contexts a slice of any syntax has, and how many bytes its operations at most.
 pub const CONTEXTS: usize = 199;

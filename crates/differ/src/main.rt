@@ -11,13 +11,13 @@ use cabac_engine::engine::start;
 use cabac_init::contexts::init_contexts;
 use frame::fields::flags_refusal;
 use frame::fields::params;
-use frame::judge;
+use frame_judge::judge;
 use hevc_differ::entries::judge as judge_payloads;
 use text::lines;
 use text::lines::Line;
 use text::lines::Window;
 use text::lines::part;
-use text_fields::fields::hex_bytes;
+use text_octets::octets::hex_bytes;
 ghost use Prim.Native.Nat.{_≤_};
 ghost use lib.ListN.{length};
 

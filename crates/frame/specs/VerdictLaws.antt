@@ -20,10 +20,10 @@ use Rattle.hevc_residual.specs.declared.params.Params.{Params}
 use Rattle.hevc_residual.specs.Numbers.{parameterRefusal}
 use Rattle.hevc_residual.specs.Entries.{FoundAt, PayloadRead, readPayload}
 use Rattle.hevc_residual.specs.AllOff.{allOff}
-use Rattle.hevc_block.specs.declared.block.Found.{Found}
-use Rattle.hevc_reader.specs.declared.entries.Read.{Read}
-use Rattle.hevc_reader.specs.declared.entries.Read.the-variants as ofRead
-use Rattle.hevc_reader.specs.EntriesAgree.{payloadRead}
+use Rattle.hevc_residual.specs.declared.answers.Found.{Found}
+use Rattle.hevc_residual.specs.declared.answers.Read.{Read}
+use Rattle.hevc_residual.specs.declared.answers.Read.the-variants as ofRead
+use Rattle.hevc_residual.specs.Answers.{payloadRead}
 use Rattle.frame.specs.declared.judge.Verdict.{Verdict}
 use Rattle.frame.specs.declared.judge.Verdict.the-variants as ofVerdict
 use Rattle.frame.specs.Frame.{payloadOf, valuesOf, byteOf, quantiserOf, paramsOf, flagsRefusal}

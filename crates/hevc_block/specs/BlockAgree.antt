@@ -7,7 +7,7 @@ use lib.IntN.{ℤ}
 use Rattle.bins.specs.declared.state.Refusal.{Refusal}
 use Rattle.bins.specs.declared.state.Interval.{Interval}
 use Rattle.bins.specs.Syn.{Out}
-use Rattle.bins.specs.Sources.{Cursor, cursor, refusedAt}
+use Rattle.bins.specs.Sources.{cursor, refusedAt}
 use Rattle.bins.specs.Laws.{RefusedBy}
 use Rattle.hevc_residual.specs.declared.params.Params.{Params}
 use Rattle.hevc_residual.specs.Residual.{Block, residual}
@@ -17,7 +17,7 @@ use Rattle.hevc_head.specs.declared.head.Headed.{Headed}
 use Rattle.hevc_head.specs.declared.head.Headed.the-variants as headed
 use Rattle.hevc_subblock.specs.declared.coeffs.Carried.{Carried}
 use Rattle.hevc_subblock.specs.declared.coeffs.Carried.the-variants as carried
-use Rattle.hevc_block.specs.declared.block.Found.{Found}
+use Rattle.hevc_residual.specs.declared.answers.Found.{Found}
 use Rattle.hevc_block.specs.declared.block.Blocked.{Blocked}
 use Rattle.hevc_block.specs.declared.block.Blocked.the-variants as blocked
 

@@ -4,7 +4,7 @@ use mathlib.Core.Path.{_≡_, sym, ap, ap₂, subst, _∙_}
 use mathlib.Core.Bool.{Bool, false}
 use mathlib.Core.List.{List}
 use lib.IntN.{ℤ, pos}
-use lib.ListN.{length, replicate}
+use lib.ListN.{replicate}
 use Rattle.bins.specs.declared.state.Refusal.{Refusal}
 use Rattle.bins.specs.declared.state.Interval.{Interval}
 use Rattle.bins.specs.Syn.{done, _>>=_, Out}
@@ -27,11 +27,11 @@ use Rattle.hevc_bounds.specs.ResidualBounds.{last-few, last-in-few}
 use Rattle.hevc_elements.specs.Agree.{Reads, from, reads-on}
 use Rattle.hevc_elements.specs.ShapeLaws.{run-done}
 use Rattle.hevc_rules.specs.declared.coeffs.Carry.{Carry}
-use Rattle.hevc_levels.specs.declared.levels.Stored.{Stored}
+use Rattle.hevc_stored.specs.declared.stored.Stored.{Stored}
 use Rattle.hevc_subblock.specs.declared.coeffs.Carried.{Carried}
 use Rattle.hevc_subblock.specs.declared.coeffs.Carried.the-variants as carried
 use Rattle.hevc_rules.specs.CoeffsAgree.{accOf}
-use Rattle.hevc_block.specs.declared.block.Found.{Found}
+use Rattle.hevc_residual.specs.declared.answers.Found.{Found}
 use Rattle.hevc_rules.specs.SubsAgree.{Last, begun, lastOf, lastInOf}
 use Rattle.hevc_sub_blocks.specs.SubsAgree.{SaysSubs}
 use Rattle.hevc_extents.specs.ExtentLaws.{column-gathered}

@@ -2,13 +2,13 @@
 use bins::state::Interval;
 use bins::state::Refusal;
 use bins::tags::CONTEXTS;
+use hevc_checks::sizes::grid;
 use hevc_head::head::Head;
 use hevc_head::head::Headed;
 use hevc_head::head::read_head;
-use hevc_levels::levels::Stored;
+use hevc_residual::answers::Found;
 use hevc_residual::params::Params;
-use hevc_residual::params::Rdpcm;
-use hevc_rules::sizes::grid;
+use hevc_stored::stored::told_of;
 use hevc_sub_blocks::subs::sub_blocks;
 use hevc_subblock::coeffs::Carried;
 use tree_shapes::levels::greatest;
@@ -20,20 +20,7 @@ ghost use Rattle.tables.specs.Decisions.{decisions};
 ghost use Rattle.hevc_residual.specs.Wanted.{area};
 ghost use Rattle.hevc_elements.specs.Agree.{Reads};
 ghost use Rattle.hevc_residual.specs.Limits.{Accepted, Statistics};
-ghost use Rattle.hevc_residual.specs.Residual.{greatestOf};
-ghost use Rattle.hevc_residual.specs.Extent.{rowExtentOf};
-ghost use Rattle.hevc_levels.specs.StoredAgree.{Keeps};
 ghost use Rattle.hevc_block.specs.BlockAgree.{headedRefusal, carriedRefusal, foundAt, SaysBlock};
-
-// What document 01 gives of a block, beside its levels.
-pub struct Found {
-    pub skip: bool,
-    pub rdpcm: Rdpcm,
-    // The greatest column and the greatest row that hold a level other than zero: specs/Reach.antt has what a transform may leave out.
-    pub column: u32,
-    pub row: u32,
-    pub greatest: u32,
-}
 
 pub enum Blocked {
     Got(Found, Interval),
@@ -68,30 +55,6 @@ fn found_of(h: Head, column: u32, row: u32, greatest: u32) -> Found
         column,
         row,
         greatest,
-    }
-}
-
-// What the levels tell: the row extent and the greatest magnitude.
-struct Told {
-    row: u32,
-    greatest: u32,
-}
-
-// They were gathered as the levels were stored; only if a place was written twice is the greatest one looked for.
-fn told_of(block: &[i32], p: Params, k: Stored) -> Told
-    requires { ⌜ Accepted p × (length (now block) ≡ area p) × Keeps p k (now block) ⌝ }
-    ensures { λ r. ⌜ (r .row ≡ rowExtentOf p (now (block .entry))) × (r .greatest ≡ greatestOf (now (block .entry))) ⌝ }
-{
-    let row = k.far >> p.log2;
-    if k.clean {
-        return Told {
-            row,
-            greatest: k.greatest,
-        };
-    }
-    Told {
-        row,
-        greatest: greatest(block),
     }
 }
 

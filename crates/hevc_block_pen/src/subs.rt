@@ -1,11 +1,11 @@
 // Sub-blocks from the last one down.
 use crate::places::put_places;
+use hevc_checks::sizes::width_of;
 use hevc_head::head::Head;
 use hevc_levels_pen::coeffs::put_coeffs;
 use hevc_residual::params::Params;
 use hevc_rules::coeffs::Carry;
 use hevc_rules::places::sig_numbers;
-use hevc_rules::sizes::width_of;
 use hevc_rules::subs::ctxset_of;
 use hevc_rules::subs::flag_number;
 use hevc_rules::subs::is_middle;

@@ -1,5 +1,5 @@
 // A kept block: n·n levels, a record for each 4x4 sub-block (counts and sums), and one for the whole.
-use hevc_rules::sizes::area_of;
+use hevc_checks::sizes::area_of;
 use hevc_summary::kept::Form;
 use hevc_summary::kept::Tally;
 use hevc_summary::kept::Whole;

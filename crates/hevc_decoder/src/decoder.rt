@@ -1,97 +1,25 @@
-// A decoder that holds a reference to its payload, beside the engine's state.
-// Each method takes it apart and calls the entry point on payload and state; the answer has the state behind it, for the next decoder.
+// A block by a decoder that holds a reference to its payload: the decoder is taken apart, and the entry point is called on payload and state.
 use bins::state::Engine;
 use bins::tags::CONTEXTS;
-use cabac::answers::Bins;
-use cabac::answers::State;
-use cabac_bins::decode;
-use cabac_context::context;
-use cabac_context::context::Bit;
-use cabac_context::context::CtxModel;
-use cabac_engine::engine;
+use cabac_decoder::decoder::Decoder;
 use hevc_reader::entries;
-use hevc_reader::entries::Read;
+use hevc_residual::answers::Read;
 use hevc_residual::params::Params;
 ghost use mathlib.Core.Path.{_≡_};
-ghost use Rattle.cabac.specs.Entries.{stateSays, binsSay, bypassBits, terminate, alignBypass, byteAlign, restOf};
 ghost use Rattle.hevc_residual.specs.Entries.{readPayload};
-ghost use Rattle.hevc_reader.specs.EntriesAgree.{payloadRead};
-ghost use Rattle.cabac_context.specs.Lent.{lentSays, onLent};
+ghost use Rattle.hevc_residual.specs.Answers.{payloadRead};
 
-pub struct Decoder<'a> {
-    pub payload: &'a [u8],
-    pub state: Engine,
-}
-
-impl<'a> Decoder<'a> {
-    // The payload with a state of it, as `start` or a step answered it.
-    pub fn new(payload: &'a [u8], state: Engine) -> Decoder<'a>
-        ensures { λ r. ⌜ (r .payload ≡ payload .entry) × (r .state ≡ state) ⌝ }
-    {
-        Decoder { payload, state }
-    }
-
-    // One bypass bin.
-    pub fn decode_bypass(self) -> Bins
-        ensures { λ r. ⌜ binsSay r ≡ bypassBits (now (self .entry .payload)) (self .entry .state) 1 ⌝ }
-    {
-        decode::decode_bypass(self.payload, self.state)
-    }
-
-    // Bypass bins, 0 to 32 of them.
-    pub fn decode_bypass_bits(self, count: u32) -> Bins
-        ensures { λ r. ⌜ binsSay r ≡ bypassBits (now (self .entry .payload)) (self .entry .state) count ⌝ }
-    {
-        decode::decode_bypass_bits(self.payload, self.state, count)
-    }
-
-    // Terminate: 1 ends the engine.
-    pub fn decode_terminate(self) -> Bins
-        ensures { λ r. ⌜ binsSay r ≡ terminate (now (self .entry .payload)) (self .entry .state) ⌝ }
-    {
-        decode::decode_terminate(self.payload, self.state)
-    }
-
-    // The range becomes 256, as before escape data.
-    pub fn align_bypass(self) -> State
-        ensures { λ r. ⌜ stateSays r ≡ alignBypass (now (self .entry .payload)) (self .entry .state) ⌝ }
-    {
-        engine::align_bypass(self.payload, self.state)
-    }
-
-    // The position rounded up to a whole byte.
-    pub fn byte_align(self) -> State
-        ensures { λ r. ⌜ stateSays r ≡ byteAlign (now (self .entry .payload)) (self .entry .state) ⌝ }
-    {
-        engine::byte_align(self.payload, self.state)
-    }
-
-    // The rest of the payload behind byte alignment; empty where byte alignment refuses.
-    pub fn rest(self) -> &'a [u8]
-        ensures { λ r. ⌜ now r ≡ restOf (now (self .entry .payload)) (self .entry .state) ⌝ }
-    {
-        engine::rest(self.payload, self.state)
-    }
-
-    // One decision on the lent context.
-    pub fn decode_bin(self, context: &mut CtxModel) -> Bit
-        ensures { λ r. ⌜ lentSays r (now (context .exit) .packed) ≡ onLent (now (self .entry .payload)) (self .entry .state) (now (context .entry) .packed) ⌝ }
-    {
-        context::decode_bin(self.payload, self.state, context)
-    }
-
-    // One block.
-    pub fn residual_coding(
-        self,
-        contexts: &mut [u8; CONTEXTS],
-        stats: &mut [u8; 4],
-        p: Params,
-        block: &mut [i32],
-    ) -> Read
-        ensures { λ r. ⌜ payloadRead r (now (contexts .exit)) (now (stats .exit)) (now (block .exit)) ≡ readPayload (now (self .entry .payload)) (self .entry .state) (now (contexts .entry)) (now (stats .entry)) p (now (block .entry)) ⌝ }
-    {
-        entries::residual_coding(self.payload, self.state, contexts, stats, p, block)
-    }
+// One block by a decoder, as the Rust's `residual_coding`.
+pub fn residual_coding<'a>(
+    decoder: Decoder<'a>,
+    contexts: &mut [u8; CONTEXTS],
+    stats: &mut [u8; 4],
+    p: Params,
+    block: &mut [i32],
+) -> Read
+    ensures { λ r. ⌜ payloadRead r (now (contexts .exit)) (now (stats .exit)) (now (block .exit)) ≡ readPayload (now (decoder .entry .payload)) (decoder .entry .state) (now (contexts .entry)) (now (stats .entry)) p (now (block .entry)) ⌝ }
+{
+    entries::residual_coding(decoder.payload, decoder.state, contexts, stats, p, block)
 }
 
 // One block through a decoder made for it: whoever calls this needs no walk.
@@ -105,5 +33,5 @@ pub fn block_through(
 ) -> Read
     ensures { λ r. ⌜ payloadRead r (now (contexts .exit)) (now (stats .exit)) (now (block .exit)) ≡ readPayload (now (payload .entry)) state (now (contexts .entry)) (now (stats .entry)) p (now (block .entry)) ⌝ }
 {
-    Decoder::new(payload, state).residual_coding(contexts, stats, p, block)
+    residual_coding(Decoder::new(payload, state), contexts, stats, p, block)
 }

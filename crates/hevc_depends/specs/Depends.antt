@@ -20,10 +20,10 @@ use Rattle.hevc_residual.specs.Residual.{Block, residual}
 use Rattle.hevc_residual.specs.Numbers.{parameterRefusal, contextsRefusal, statisticsRefusal}
 use Rattle.hevc_residual.specs.Entries as entries
 use Rattle.hevc_residual.specs.Entries.{PayloadRead, FoundAt, readByEngine, readPayloadBy, readPayload}
-use Rattle.hevc_block.specs.declared.block.Found.{Found}
-use Rattle.hevc_reader.specs.declared.entries.Read.{Read}
-use Rattle.hevc_reader.specs.declared.entries.Read.the-variants as read
-use Rattle.hevc_reader.specs.EntriesAgree.{foundSeen, payloadRead, payloadChecks}
+use Rattle.hevc_residual.specs.declared.answers.Found.{Found}
+use Rattle.hevc_residual.specs.declared.answers.Read.{Read}
+use Rattle.hevc_residual.specs.declared.answers.Read.the-variants as read
+use Rattle.hevc_residual.specs.Answers.{foundSeen, payloadRead, payloadChecks}
 use Rattle.hevc_depends.specs.Reached.{reachedBy, reached, drewPast}
 
 -- a state that lies in both payloads is refused by both, or by neither

@@ -9,7 +9,7 @@ use Rattle.bins.specs.EngineRuns.{stateOf}
 use Rattle.bins.specs.Raised.{unmarked}
 use Rattle.hevc_residual.specs.declared.params.Params.{Params}
 use Rattle.hevc_residual.specs.Residual.{residual}
-use Rattle.hevc_reader.specs.EntriesAgree.{payloadChecks}
+use Rattle.hevc_residual.specs.Answers.{payloadChecks}
 
 -- behind the checks, which gave the number n
 unfoldable pub reachedBy : ℕ → List ℕ → Engine → List ℕ → List ℕ → Params → Engine

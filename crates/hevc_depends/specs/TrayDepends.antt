@@ -16,7 +16,7 @@ use Rattle.hevc_residual.specs.declared.params.Params.{Params}
 use Rattle.hevc_residual.specs.Wanted.{area}
 use Rattle.hevc_residual.specs.Residual.{Block, residual}
 use Rattle.hevc_residual.specs.Entries.{PayloadRead, FoundAt, readByEngine, readPayloadBy, readPayload}
-use Rattle.hevc_reader.specs.EntriesAgree.{payloadChecks}
+use Rattle.hevc_residual.specs.Answers.{payloadChecks}
 use Rattle.hevc_tray.specs.declared.entries.Tray as code
 use Rattle.hevc_tray.specs.Rows.{recordsOf, rowsRefusal, foundRows}
 use Rattle.hevc_tray.specs.Seen.{traySeen}

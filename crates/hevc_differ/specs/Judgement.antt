@@ -9,7 +9,7 @@ use Rattle.bins.specs.Engine.{place}
 use Rattle.cabac.specs.Numbers.{payloadRefusal}
 use Rattle.differs.specs.Differ.{firstDifference}
 use Rattle.hevc_residual.specs.declared.params.Params.{Params}
-use Rattle.hevc_reader.specs.EntriesAgree.{payloadChecks}
+use Rattle.hevc_residual.specs.Answers.{payloadChecks}
 use Rattle.hevc_depends.specs.Reached.{reached, drewPast}
 use Rattle.hevc_differ.specs.declared.entries.Judgement.{Judgement}
 use Rattle.hevc_differ.specs.declared.entries.Judgement.the-variants as says

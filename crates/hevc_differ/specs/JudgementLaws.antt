@@ -14,7 +14,7 @@ use Rattle.cabac.specs.Numbers.{payloadRefusal}
 use Rattle.differs.specs.Differ.{firstDifference, difference-agrees, difference-fits}
 use Rattle.hevc_residual.specs.declared.params.Params.{Params}
 use Rattle.hevc_residual.specs.Entries.{readPayload}
-use Rattle.hevc_reader.specs.EntriesAgree.{payloadChecks}
+use Rattle.hevc_residual.specs.Answers.{payloadChecks}
 use Rattle.hevc_depends.specs.Reached.{reached, drewPast}
 use Rattle.hevc_depends.specs.Depends.{Shown, depends}
 use Rattle.hevc_reached.specs.declared.entries.ReachedAt.{ReachedAt}

@@ -1,10 +1,10 @@
 // Two payloads, read from one state: can the block depend on what differs between them? It takes anything and changes nothing.
 use bins::state::Engine;
 use bins::tags::CONTEXTS;
-use cabac_state::engine::payload_refusal;
+use cabac_checks::checks::payload_refusal;
 use differs::payloads::first_difference;
+use hevc_checks::checks::payload_checks;
 use hevc_reached::entries::reached;
-use hevc_reader::entries::payload_checks;
 use hevc_residual::params::Params;
 ghost use mathlib.Core.Path.{_≡_};
 ghost use Rattle.hevc_differ.specs.Judgement.{judgement};

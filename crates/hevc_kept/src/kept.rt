@@ -1,11 +1,11 @@
 // A kept block: n·n levels, a record for each 4x4 sub-block (counts and sums), and one for the whole.
+use hevc_checks::sizes::area_of;
 use hevc_counts::counts::count_all;
 use hevc_counts::counts::count_in;
 use hevc_counts::counts::form_refusal;
 use hevc_counts::counts::sub_of;
 use hevc_counts::counts::whole_of;
 use hevc_remainder::remainder::in_range;
-use hevc_rules::sizes::area_of;
 use hevc_summary::kept::Changed;
 use hevc_summary::kept::Form;
 use hevc_summary::kept::Whole;

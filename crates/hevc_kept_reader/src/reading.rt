@@ -2,91 +2,25 @@
 // block, which after 7, 8 and 13 is zeros.
 use bins::state::Engine;
 use bins::tags::CONTEXTS;
-use cabac_state::engine::payload_refusal;
 use hevc_counts::counts::count_all;
-use hevc_counts::counts::form_refusal;
-use hevc_reader::entries::Read;
-use hevc_reader::entries::ReadList;
+use hevc_kept_checks::checks::block_refusal;
+use hevc_kept_checks::checks::list_came;
+use hevc_kept_checks::checks::read_came;
+use hevc_kept_checks::checks::read_refusal;
 use hevc_reader::entries::read_bins;
 use hevc_reader::entries::residual_coding;
-use hevc_remainder::remainder::range_bits;
+use hevc_residual::answers::Read;
+use hevc_residual::answers::ReadList;
 use hevc_residual::params::Params;
-use hevc_rules::checks::parameter_refusal;
 use hevc_summary::kept::Form;
 use hevc_summary::kept::Whole;
 use hevc_summary::reading::ListInto;
 use hevc_summary::reading::ReadInto;
 ghost use mathlib.Core.Path.{_≡_};
 ghost use mathlib.Core.Bool.{true};
-ghost use Prim.Native.Nat.{_≤_};
 ghost use Rattle.hevc_summary.specs.Summary.{Keeps};
-ghost use Rattle.hevc_summary.specs.Entries.{touched, otherForm, blockRefusal, readRefusal, readKept, listKept};
+ghost use Rattle.hevc_summary.specs.Entries.{touched, readKept, listKept};
 ghost use Rattle.hevc_summary.specs.Agree.{keptOf, readSays, listSays, keptRead, keptList};
-
-// ---- refusals
-
-// 4
-fn other_form(f: Form, p: Params) -> u32
-    requires { ⌜ p .depth ≤ 16 ⌝ }
-    ensures { λ r. ⌜ r ≡ otherForm f p ⌝ }
-{
-    if f.log2 != p.log2 {
-        return 4;
-    }
-    let bits = range_bits(p);
-    if f.bits != bits {
-        return 4;
-    }
-    0
-}
-
-// 4
-fn block_refusal(f: Form, p: Params, levels: &[i32]) -> u32
-    ensures { λ r. ⌜ r ≡ blockRefusal f p (now (levels .entry)) ⌝ }
-{
-    let a = parameter_refusal(p, levels);
-    if a != 0 {
-        return a;
-    }
-    let b = form_refusal(f, levels);
-    if b != 0 {
-        return b;
-    }
-    other_form(f, p)
-}
-
-// 1, 2, 4
-fn read_refusal(f: Form, bytes: &[u8], p: Params, levels: &[i32]) -> u32
-    ensures { λ r. ⌜ r ≡ readRefusal f (now (bytes .entry)) p (now (levels .entry)) ⌝ }
-{
-    let a = payload_refusal(bytes);
-    if a != 0 {
-        return a;
-    }
-    block_refusal(f, p, levels)
-}
-
-// ---- whether the reader came to the block
-
-fn read_came(r: Read) -> bool
-    ensures { λ b. ⌜ b ≡ touched (readSays r) ⌝ }
-{
-    match r {
-        Read::Block(_, _) => true,
-        Read::Refused(n) => 6 < n,
-    }
-}
-
-fn list_came(r: ReadList) -> bool
-    ensures { λ b. ⌜ b ≡ touched (listSays r) ⌝ }
-{
-    match r {
-        ReadList::Block(_) => true,
-        ReadList::Refused(n) => 6 < n,
-    }
-}
-
-// ---- reading
 
 // A block from a payload.
 pub fn read_kept(

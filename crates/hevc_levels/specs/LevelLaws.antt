@@ -10,7 +10,7 @@ use Rattle.bins.specs.declared.state.Interval.{Interval}
 use Rattle.bins.specs.declared.state.Refusal.{Refusal}
 use Rattle.bins.specs.declared.state.Step.{Step}
 use Rattle.bins.specs.declared.state.Step.the-variants as step
-use Rattle.bins.specs.Syn.{done, stop, _>>=_, Out, run}
+use Rattle.bins.specs.Syn.{stop, _>>=_, Out, run}
 use Rattle.bins.specs.Sources.{Cursor, cursor, byCode, Readable, stopped, refusedAt, refusalOf}
 use Rattle.bins.specs.Laws.{RefusedBy, bind-ok, bind-no}
 use Rattle.hevc_residual.specs.declared.params.Params.{Params}
@@ -22,7 +22,7 @@ use Rattle.hevc_residual.specs.SubBlock.{Filled, negativeNow}
 use Rattle.hevc_elements.specs.Agree.{from, readable-on}
 use Rattle.hevc_elements.specs.ShapeLaws.{run-done}
 use Rattle.hevc_rules.specs.declared.levels.Going.{Going}
-use Rattle.hevc_levels.specs.declared.levels.Stored.{Stored}
+use Rattle.hevc_stored.specs.declared.stored.Stored.{Stored}
 use Rattle.hevc_levels.specs.declared.levels.Leveled.{Leveled}
 use Rattle.hevc_levels.specs.declared.levels.Leveled.the-variants as leveled
 use Rattle.hevc_remainder.specs.RemainderAgree.{most, SaysCapped}

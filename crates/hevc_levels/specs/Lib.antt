@@ -1,4 +1,4 @@
 pub mod LevelsAgree
 pub mod LevelLaws
-pub mod StoredAgree
+pub mod KeptAgree
 pub mod StoredLaws

@@ -18,12 +18,13 @@ use Rattle.hevc_residual.specs.Remainder.{signed}
 use Rattle.hevc_residual.specs.Extent.{reachOf, side, rowAt, rowExtentOf}
 use Rattle.hevc_residual.specs.ReachLaws.{reach-set, reach-zeros}
 use Rattle.hevc_residual.specs.Residual.{greatestOf}
-use Rattle.hevc_levels.specs.declared.levels.Stored.{Stored}
+use Rattle.hevc_stored.specs.declared.stored.Stored.{Stored}
 use Rattle.bins.specs.declared.state.Interval.{Interval}
 use Rattle.hevc_rules.specs.declared.levels.Going.{Going}
 use Rattle.hevc_levels.specs.declared.levels.Leveled.{Leveled}
 use Rattle.hevc_levels.specs.declared.levels.Leveled.the-variants as leveled
-use Rattle.hevc_levels.specs.StoredAgree.{storedOf, Keeps, KeepsBehind}
+use Rattle.hevc_stored.specs.StoredAgree.{storedOf, Keeps}
+use Rattle.hevc_levels.specs.KeptAgree.{KeepsBehind}
 
 -- ---- a level at a free place
 pub greatest-stored : (l : List ℤ) (at : ℕ) (v : ℤ) → at < length l → natAbs (getD l at (pos 0)) ≡ 0 → greatestOf (set l at v) ≡ max (greatestOf l) (natAbs v)

@@ -10,32 +10,26 @@ use hevc_remainder::remainder::in_range;
 use hevc_remainder::remainder::remainder;
 use hevc_residual::params::Params;
 use hevc_rules::levels::Going;
-use tree_shapes::levels::larger;
+use hevc_stored::stored::Stored;
+use hevc_stored::stored::is_free;
+use hevc_stored::stored::is_negative;
+use hevc_stored::stored::store;
+use hevc_stored::stored::stored_behind;
 ghost use mathlib.Core.Path.{_≡_};
 ghost use mathlib.Core.List.{List};
-ghost use mathlib.Core.Bool.{_&&_};
-ghost use Prim.Native.Nat.{ℕ, _-_, _≤_, _<_, max};
-ghost use lib.Dec.{eqb};
-ghost use lib.IntN.{pos, natAbs};
-ghost use lib.ListN.{length, getD, set};
+ghost use Prim.Native.Nat.{ℕ, _-_, _≤_, _<_};
+ghost use lib.ListN.{length};
 ghost use Rattle.bins.specs.Sources.{Readable};
 ghost use Rattle.hevc_residual.specs.Wanted.{Wanted, area, innerOf};
-ghost use Rattle.hevc_residual.specs.Remainder.{signed, log2TransformRange};
-ghost use Rattle.hevc_residual.specs.SubBlock.{negativeNow};
+ghost use Rattle.hevc_residual.specs.Remainder.{log2TransformRange};
 ghost use Rattle.hevc_residual.specs.Scan.{spot};
 ghost use Rattle.hevc_elements.specs.Agree.{from};
 ghost use Rattle.hevc_scans.specs.Pairs.{pairsOf};
 ghost use Rattle.hevc_remainder.specs.RemainderAgree.{SaysCapped};
 ghost use Rattle.hevc_rules.specs.LevelsAgree.{Fine, Site, extraS};
 ghost use Rattle.hevc_levels.specs.LevelsAgree.{SaysOne, SaysAll};
-ghost use Rattle.hevc_levels.specs.StoredAgree.{storedOf, Keeps, KeepsBehind};
-
-// What is told of the levels stored so far, so that the block need not be looked through at its end.
-pub struct Stored {
-    pub greatest: u32, // the greatest magnitude, while clean
-    pub far: u32, // the furthest place that was written: its row is the row extent
-    pub clean: bool, // every place was 0 when it was written
-}
+ghost use Rattle.hevc_stored.specs.StoredAgree.{Keeps};
+ghost use Rattle.hevc_levels.specs.KeptAgree.{KeepsBehind};
 
 pub enum Leveled {
     Got(Going, Stored, Interval),
@@ -51,53 +45,6 @@ fn extra(list: bool, p: Params, more: bool, rice: u32, bytes: &[u8], x: Interval
         return remainder(list, p, rice, bytes, x);
     }
     Step::Bin(0, x)
-}
-
-// The next sign bin, or, where it is hidden, whether the sum is odd. Signs are left in the number signs.
-fn is_negative(left: u32, signs: u32, sum: u32) -> bool
-    requires { ⌜ left ≤ 16 ⌝ }
-    ensures { λ r. ⌜ r ≡ negativeNow left signs sum ⌝ }
-{
-    if left == 0 {
-        return sum % 2 == 1;
-    }
-    (signs >> (left - 1)) % 2 == 1
-}
-
-fn store(block: &mut [i32], at: usize, negative: bool, m: u32)
-    requires { ⌜ (at < length (now block)) × (m ≤ 4194304) ⌝ }
-    ensures { λ _. ⌜ now (block .exit) ≡ set (now (block .entry)) at (signed negative m) ⌝ }
-{
-    if negative {
-        block[at] = -(m as i32);
-    } else {
-        block[at] = m as i32;
-    }
-}
-
-// Whether no level stands there yet.
-fn is_free(block: &[i32], at: usize) -> bool
-    requires { ⌜ at < length (now block) ⌝ }
-    ensures { λ r. ⌜ r ≡ eqb (natAbs (getD (now (block .entry)) at (pos 0))) 0 ⌝ }
-{
-    block[at] == 0
-}
-
-fn both(a: bool, b: bool) -> bool
-    ensures { λ r. ⌜ r ≡ (a && b) ⌝ }
-{
-    if a { b } else { false }
-}
-
-// What is told behind a level of magnitude m at a place that was free or was not.
-fn stored_behind(k: Stored, free: bool, m: u32, at: u32) -> Stored
-    ensures { λ r. ⌜ r ≡ storedOf k free m at ⌝ }
-{
-    Stored {
-        greatest: larger(k.greatest, m),
-        far: larger(k.far, at),
-        clean: both(k.clean, free),
-    }
 }
 
 // One level: read, tested, stored at its place of sub-block (xs, ys).

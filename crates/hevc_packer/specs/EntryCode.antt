@@ -13,12 +13,12 @@ use Rattle.hevc_residual.specs.declared.params.Params.{Params}
 use Rattle.hevc_residual.specs.Residual.{Block, residual}
 use Rattle.hevc_residual.specs.Numbers.{parameterRefusal, contextsRefusal, statisticsRefusal}
 use Rattle.hevc_residual.specs.Entries.{BinsRead, foundOf, readFromList, readBinsBy, readBins}
-use Rattle.hevc_reader.specs.declared.entries.ReadList.{ReadList}
-use Rattle.hevc_reader.specs.declared.entries.ReadList.the-variants as readlist
-use Rattle.hevc_block.specs.declared.block.Found as found
-use Rattle.hevc_reader.specs.EntriesAgree.{binsRead}
-use Rattle.hevc_rules.specs.ChecksAgree.{aboveRefusal}
-use Rattle.hevc_rules.specs.ChecksLaws.{above-contexts, above-statistics, contexts-packed}
+use Rattle.hevc_residual.specs.declared.answers.ReadList.{ReadList}
+use Rattle.hevc_residual.specs.declared.answers.ReadList.the-variants as readlist
+use Rattle.hevc_residual.specs.declared.answers.Found as found
+use Rattle.hevc_residual.specs.Answers.{binsRead}
+use Rattle.hevc_checks.specs.ChecksAgree.{aboveRefusal}
+use Rattle.hevc_checks.specs.ChecksLaws.{above-contexts, above-statistics, contexts-packed}
 use Rattle.hevc_bounds.specs.Pieces.{binsMost}
 use Rattle.hevc_cross.specs.Scale.{scale}
 use Rattle.hevc_cross.specs.Entries as cross

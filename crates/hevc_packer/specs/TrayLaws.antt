@@ -29,7 +29,7 @@ use Rattle.hevc_residual.specs.Numbers.{parameterRefusal, contextsRefusal, stat
 use Rattle.hevc_residual.specs.Limits.{Accepted, Statistics}
 use Rattle.hevc_residual.specs.LimitLaws.{parameter-passed, parameter-same, statistics-passed}
 use Rattle.hevc_residual.specs.Entries.{foundOf, readPayload, blockWith}
-use Rattle.hevc_rules.specs.ChecksLaws.{contexts-packed}
+use Rattle.hevc_checks.specs.ChecksLaws.{contexts-packed}
 use Rattle.hevc_bounds.specs.Pieces.{binsMost, residualBounds}
 use Rattle.packing.specs.Pack.{begun, Writing, writing, entriesOf, packed, packedFrom, payloadOf}
 use Rattle.packing.specs.FollowLaws.{In, Follows, Wide}

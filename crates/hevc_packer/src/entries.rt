@@ -1,11 +1,11 @@
 // The entry points: a block's bin list as a payload in a lent room, and a scale's.
 // Each takes anything: what is not accepted is answered by its number. Contexts and statistics are read only.
 use bins::tags::CONTEXTS;
-use hevc_reader::entries::ReadList;
+use hevc_checks::checks::above_refusal;
+use hevc_checks::checks::parameter_refusal;
 use hevc_reader::entries::read_bins;
+use hevc_residual::answers::ReadList;
 use hevc_residual::params::Params;
-use hevc_rules::checks::above_refusal;
-use hevc_rules::checks::parameter_refusal;
 use hevc_scale::entries::component_refusal;
 use hevc_scale::entries::read_scale_bins;
 use packer::list::Packing;

@@ -16,12 +16,12 @@ use Rattle.hevc_residual.specs.Wanted.{Wanted}
 use Rattle.hevc_residual.specs.Refusal.{writeRefusal}
 use Rattle.hevc_residual.specs.Numbers.{parameterRefusal, contextsRefusal, statisticsRefusal}
 use Rattle.hevc_residual.specs.Entries.{PayloadRead, readPayloadBy, readPayload, BinsRead, readBinsBy, readBins, BinsWritten, wantedFrom, writeBinsBy, writeBins}
-use Rattle.hevc_reader.specs.declared.entries.Read.the-variants as read
-use Rattle.hevc_reader.specs.declared.entries.ReadList.the-variants as readlist
-use Rattle.hevc_reader.specs.EntriesAgree.{payloadRead, binsRead}
-use Rattle.hevc_rules.specs.ChecksAgree.{aboveRefusal}
-use Rattle.hevc_writer.specs.declared.entries.Written.the-variants as listed
-use Rattle.hevc_writer.specs.EntriesPuts.{binsWritten}
+use Rattle.hevc_residual.specs.declared.answers.Read.the-variants as read
+use Rattle.hevc_residual.specs.declared.answers.ReadList.the-variants as readlist
+use Rattle.hevc_residual.specs.Answers.{payloadRead, binsRead}
+use Rattle.hevc_checks.specs.ChecksAgree.{aboveRefusal}
+use Rattle.hevc_residual.specs.declared.answers.Written.the-variants as listed
+use Rattle.hevc_residual.specs.Answers.{binsWritten}
 use Rattle.hevc_plain.specs.Plain.{plainParams, zeros, plainRefusal, readPlain, readPlainBins, writePlain}
 use Rattle.hevc_plain.specs.PlainLaws.{plain-full, plain-full-bins, plain-full-write}
 

@@ -1,7 +1,7 @@
 // What 24 refuses, and what is looked at before a plain block is read.
+use hevc_checks::checks::above_refusal;
+use hevc_checks::checks::parameter_refusal;
 use hevc_residual::params::Params;
-use hevc_rules::checks::above_refusal;
-use hevc_rules::checks::parameter_refusal;
 ghost use mathlib.Core.Path.{_≡_};
 ghost use Rattle.hevc_plain.specs.Plain.{plainRefusal};
 ghost use Rattle.hevc_plain_checks.specs.PlainCode.{scanRefusal, plainChecks};

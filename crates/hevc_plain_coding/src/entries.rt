@@ -1,19 +1,18 @@
 // The plain entry points: each refuses by 24 what is not plain, behind 4 and before 3, and else answers as the full one does.
 use bins::state::Engine;
 use bins::tags::CONTEXTS;
-use cabac_state::engine::payload_refusal;
+use cabac_checks::checks::payload_refusal;
 use hevc_plain_checks::checks::plain_checks;
-use hevc_reader::entries::Read;
-use hevc_reader::entries::ReadList;
 use hevc_reader::entries::read_bins;
 use hevc_reader::entries::residual_coding;
+use hevc_residual::answers::Read;
+use hevc_residual::answers::ReadList;
+use hevc_residual::answers::Written;
 use hevc_residual::params::Params;
 use hevc_residual::params::Rdpcm;
-use hevc_writer::entries::Written;
 use hevc_writer::entries::write_bins;
 ghost use mathlib.Core.Path.{_≡_};
-ghost use Rattle.hevc_reader.specs.EntriesAgree.{payloadRead, binsRead};
-ghost use Rattle.hevc_writer.specs.EntriesPuts.{binsWritten};
+ghost use Rattle.hevc_residual.specs.Answers.{payloadRead, binsRead, binsWritten};
 ghost use Rattle.hevc_writer.specs.Demand3.{Exactly};
 ghost use Rattle.hevc_plain.specs.Plain.{readPlain, readPlainBins, writePlain};
 ghost use Rattle.hevc_plain_checks.specs.PlainCode.{plainChecks};

@@ -21,7 +21,8 @@ use Rattle.hevc_residual.specs.Residual.{Block, residual}
 use Rattle.hevc_elements.specs.Agree.{from}
 use Rattle.hevc_block.specs.declared.block.Blocked.{Blocked}
 use Rattle.hevc_block.specs.declared.block.Blocked.the-variants as blocked
-use Rattle.hevc_reader.specs.EntriesAgree.{payloadChecks, SaysInto}
+use Rattle.hevc_residual.specs.Answers.{payloadChecks}
+use Rattle.hevc_reader.specs.EntriesAgree.{SaysInto}
 use Rattle.hevc_reader.specs.EntriesLaws.{checks-passed}
 use Rattle.hevc_depends.specs.Reached.{reachedBy, reached, drewPast}
 use Rattle.hevc_reached.specs.declared.entries.ReachedAt.{ReachedAt}

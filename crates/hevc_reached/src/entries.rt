@@ -6,7 +6,7 @@ use bins::tags::CONTEXTS;
 use cabac_state::engine::open;
 use cabac_state::engine::settle;
 use hevc_block::block::Blocked;
-use hevc_reader::entries::payload_checks;
+use hevc_checks::checks::payload_checks;
 use hevc_reader::entries::read_into;
 use hevc_residual::params::Params;
 use tables::decision_table;

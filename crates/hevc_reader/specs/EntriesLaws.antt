@@ -1,13 +1,12 @@
 -- The entry points' checks, the places that they clear, and each way out of them. Assumes nothing.
-use Prim.Native.Nat.{ℕ, zero, suc, _+_, _≤_, _<_}
+use Prim.Native.Nat.{ℕ, zero, suc, _+_, _≤_}
 use mathlib.Core.Path.{_≡_, refl, sym, ap, subst, _∙_}
 use mathlib.Core.Bool.{Bool, true, false}
 use mathlib.Core.List.{List, [], _∷_, _++_}
 use native.Mathlib.Omega.{arith}
-use native.Mathlib.Numerals.{add-one}
 use lib.IntN.{ℤ, pos}
-use lib.ListN.{length, getD, set, take, drop, replicate, length-replicate, drop-of-length-le}
-use lib.Seq.{drop-cons, set-append-seam, take-append-seam, drop-append-seam}
+use lib.ListN.{length, getD, take, drop, replicate, length-replicate, drop-of-length-le}
+use lib.Seq.{drop-cons, take-append-seam, drop-append-seam}
 use Rattle.bins.specs.declared.state.Engine.{Engine}
 use Rattle.bins.specs.declared.state.Refusal.{Refusal}
 use Rattle.bins.specs.declared.state.Interval.{Interval}
@@ -21,8 +20,8 @@ use Rattle.bins.specs.CodeLaws.{Packed}
 use Rattle.bins.specs.EngineRuns.{runs-goes}
 use Rattle.bins.specs.Settled.{seen, run-opened}
 use Rattle.bins.specs.Listed.{left, run-listed}
-use Rattle.cabac.specs.Numbers.{accepted, refused, _orElse_, payloadRefusal, stateRefusal, endedRefusal}
-use Rattle.cabac.specs.NumberLaws.{or-else-first, or-else-rest, or-else-zero, payload-passed, state-fits, state-counts, state-runs}
+use Rattle.cabac.specs.Numbers.{accepted, _orElse_, payloadRefusal, stateRefusal, endedRefusal}
+use Rattle.cabac.specs.NumberLaws.{or-else-zero, payload-passed, state-fits, state-counts, state-runs}
 use Rattle.hevc_residual.specs.declared.params.Params.{Params}
 use Rattle.hevc_residual.specs.Wanted.{area}
 use Rattle.hevc_residual.specs.Residual.{Block, residual}
@@ -31,33 +30,18 @@ use Rattle.hevc_residual.specs.LimitLaws.{parameter-passed, statistics-passed}
 use Rattle.hevc_residual.specs.Numbers.{parameterRefusal, contextsRefusal, statisticsRefusal}
 use Rattle.hevc_residual.specs.Entries.{blockWith, cleared, readByEngine, readPayloadBy, readPayload, readFromList, readBinsBy, readBins}
 use Rattle.hevc_elements.specs.Agree.{Reads, from, reads-on}
-use Rattle.hevc_block.specs.declared.block.Found.{Found}
+use Rattle.hevc_residual.specs.declared.answers.Found.{Found}
 use Rattle.hevc_block.specs.declared.block.Blocked.{Blocked}
 use Rattle.hevc_block.specs.declared.block.Blocked.the-variants as blocked
-use Rattle.hevc_reader.specs.declared.entries.Read.the-variants as read
-use Rattle.hevc_reader.specs.declared.entries.ReadList.the-variants as readlist
+use Rattle.hevc_residual.specs.declared.answers.Read.the-variants as read
+use Rattle.hevc_residual.specs.declared.answers.ReadList.the-variants as readlist
 use Rattle.hevc_block.specs.BlockAgree.{blockOf, SaysBlock}
-use Rattle.hevc_rules.specs.ChecksAgree.{binsChecks, aboveRefusal}
-use Rattle.hevc_reader.specs.EntriesAgree.{payloadRead, binsRead, payloadChecks, blockedNo, SaysInto}
-use Rattle.hevc_rules.specs.ChecksLaws.{above-contexts, above-statistics, contexts-packed}
+use Rattle.hevc_checks.specs.ChecksAgree.{binsChecks}
+use Rattle.hevc_residual.specs.Answers.{payloadRead, binsRead, payloadChecks}
+use Rattle.hevc_reader.specs.EntriesAgree.{blockedNo, SaysInto}
+use Rattle.hevc_checks.specs.ChecksLaws.{contexts-packed}
 
 -- ---- places cleared
-again : {A : Type 0} (i : ℕ) (a : A) (l : List A) → replicate i a ++ (a ∷ l) ≡ a ∷ (replicate i a ++ l)
-again zero a l = refl
-again (suc i) a l = ap (λ (r : List _). a ∷ r) (again i a l)
-
-pub clear-more : (b now : List ℤ) (i : ℕ) → i < length b → now ≡ replicate i (pos 0) ++ drop i b → set now i (pos 0) ≡ replicate (i + 1) (pos 0) ++ drop (i + 1) b
-clear-more b now i h q =
-    let z = pos 0 in
-    let y = getD b i z in
-    let r = drop (suc i) b in
-    let d : drop i b ≡ y ∷ r = drop-cons b i z h in
-    let e : now ≡ replicate i z ++ (y ∷ r) = q ∙ ap (λ (t : List ℤ). replicate i z ++ t) d in
-    let s : set (replicate i z ++ (y ∷ r)) i z ≡ replicate i z ++ (z ∷ r) =
-    subst (λ k. set (replicate i z ++ (y ∷ r)) k z ≡ replicate i z ++ (z ∷ r)) (length-replicate i z) (set-append-seam (replicate i z) y r z) in
-    let t : set now i z ≡ replicate (suc i) z ++ r = ap (λ (t : List ℤ). set t i z) e ∙ s ∙ again i z r in
-    rw (add-one i) t
-
 -- the front and the rest of a lent block
 module _ (n : ℕ) (front rest : List ℤ) (h : length front ≡ n) where
   front-of : take n (front ++ rest) ≡ front
@@ -141,30 +125,6 @@ module _ (l : List ℕ) (e : Engine) (contexts stats : List ℕ) (p : Params) (b
 
   abbrev all : ℕ
   all = payloadChecks l e contexts stats p block
-
-  pub checks-one : (n : ℕ) → n ≡ payloadRefusal l → (n ≡ 0 → ⊥) → n ≡ payloadChecks l e contexts stats p block
-  checks-one n q h = or-else-first n c₁ (c₂ orElse c₃ orElse c₄ orElse c₅ orElse c₆) q h
-
-  module _ (z₁ : 0 ≡ payloadRefusal l) where
-    pub checks-two : (n : ℕ) → n ≡ parameterRefusal p block → (n ≡ 0 → ⊥) → n ≡ payloadChecks l e contexts stats p block
-    checks-two n q h = or-else-rest n c₁ _ z₁ (or-else-first n c₂ (c₃ orElse c₄ orElse c₅ orElse c₆) q h)
-
-    module _ (z₂ : 0 ≡ parameterRefusal p block) where
-      pub checks-three : (n : ℕ) → n ≡ stateRefusal l e → (n ≡ 0 → ⊥) → n ≡ payloadChecks l e contexts stats p block
-      checks-three n q h = or-else-rest n c₁ _ z₁ (or-else-rest n c₂ _ z₂ (or-else-first n c₃ (c₄ orElse c₅ orElse c₆) q h))
-
-      module _ (z₃ : 0 ≡ stateRefusal l e) where
-        pub checks-four : (n : ℕ) → n ≡ aboveRefusal 127 contexts → (n ≡ 0 → ⊥) → n ≡ payloadChecks l e contexts stats p block
-        checks-four n q h = or-else-rest n c₁ _ z₁ (or-else-rest n c₂ _ z₂ (or-else-rest n c₃ _ z₃ (or-else-first n c₄ (c₅ orElse c₆) (q ∙ above-contexts contexts) h)))
-
-        module _ (z₄ : 0 ≡ aboveRefusal 127 contexts) where
-          pub checks-five : (n : ℕ) → n ≡ aboveRefusal 84 stats → (n ≡ 0 → ⊥) → n ≡ payloadChecks l e contexts stats p block
-          checks-five n q h =
-              or-else-rest n c₁ _ z₁ (or-else-rest n c₂ _ z₂ (or-else-rest n c₃ _ z₃ (or-else-rest n c₄ _ (z₄ ∙ above-contexts contexts) (or-else-first n c₅ c₆ (q ∙ above-statistics stats) h))))
-
-          pub checks-six : 0 ≡ aboveRefusal 84 stats → (n : ℕ) → n ≡ endedRefusal e → n ≡ payloadChecks l e contexts stats p block
-          checks-six z₅ n q =
-              or-else-rest n c₁ _ z₁ (or-else-rest n c₂ _ z₂ (or-else-rest n c₃ _ z₃ (or-else-rest n c₄ _ (z₄ ∙ above-contexts contexts) (or-else-rest n c₅ c₆ (z₅ ∙ above-statistics stats) q))))
 
   pub payload-no : (n : ℕ) → n ≡ payloadChecks l e contexts stats p block → (n ≡ 0 → ⊥) → payloadRead (read.Refused n) contexts stats block ≡ readPayload l e contexts stats p block
   unfolding readPayload

@@ -9,10 +9,10 @@ use Rattle.hevc_residual.specs.declared.params.Params.{Params}
 use Rattle.hevc_residual.specs.Extent.{Extents}
 use Rattle.hevc_residual.specs.Entries.{PayloadRead, BinsRead, readPayload, readBins}
 use Rattle.hevc_extents.specs.EntryExtents.{payload-extents, list-extents}
-use Rattle.hevc_block.specs.declared.block.Found.{Found}
-use Rattle.hevc_reader.specs.declared.entries.Read.the-variants as read
-use Rattle.hevc_reader.specs.declared.entries.ReadList.the-variants as readlist
-use Rattle.hevc_reader.specs.EntriesAgree.{foundSeen, payloadRead, binsRead}
+use Rattle.hevc_residual.specs.declared.answers.Found.{Found}
+use Rattle.hevc_residual.specs.declared.answers.Read.the-variants as read
+use Rattle.hevc_residual.specs.declared.answers.ReadList.the-variants as readlist
+use Rattle.hevc_residual.specs.Answers.{foundSeen, payloadRead, binsRead}
 
 -- `residual_coding` answered Block: block is what was lent, block′ what it holds at the exit
 pub block-reach : (l : List ℕ) (e : Engine) (contexts stats : List ℕ) (p : Params) (block : List ℤ)

@@ -5,79 +5,28 @@ use bins::state::Engine;
 use bins::state::Interval;
 use bins::tags::CONTEXTS;
 use cabac_state::engine::open;
-use cabac_state::engine::payload_refusal;
 use cabac_state::engine::settle;
-use cabac_state::engine::state_refusal;
 use hevc_block::block::Blocked;
-use hevc_block::block::Found;
 use hevc_block::block::read_block;
+use hevc_checks::checks::bins_checks;
+use hevc_checks::checks::payload_checks;
+use hevc_checks::clear::clear;
+use hevc_checks::sizes::area_of;
+use hevc_residual::answers::Read;
+use hevc_residual::answers::ReadList;
 use hevc_residual::params::Params;
-use hevc_rules::checks::above_refusal;
-use hevc_rules::checks::bins_checks;
-use hevc_rules::checks::parameter_refusal;
-use hevc_rules::sizes::area_of;
 use tables::decision_table;
 ghost use mathlib.Core.Path.{_≡_};
 ghost use mathlib.Core.Bool.{true};
-ghost use mathlib.Core.List.{_++_};
 ghost use Prim.Native.Nat.{_≤_};
-ghost use lib.ListN.{length, drop, replicate};
-ghost use lib.IntN.{pos};
+ghost use lib.ListN.{length};
 ghost use Rattle.tables.specs.Decisions.{decisions};
 ghost use Rattle.hevc_residual.specs.Wanted.{area};
 ghost use Rattle.hevc_residual.specs.Entries.{readPayload, readBins};
 ghost use Rattle.hevc_elements.specs.Agree.{Reads};
 ghost use Rattle.hevc_residual.specs.Limits.{Accepted, Statistics};
-ghost use Rattle.hevc_reader.specs.EntriesAgree.{payloadRead, binsRead, payloadChecks, blockedNo, SaysInto};
-
-// A block with the state behind it, or the number of the refusal.
-pub enum Read {
-    Block(Found, Engine),
-    Refused(u32),
-}
-
-// A block, or the number of the refusal.
-pub enum ReadList {
-    Block(Found),
-    Refused(u32),
-}
-
-// 1, 2, 4, 3, 6
-pub fn payload_checks(
-    bytes: &[u8],
-    e: Engine,
-    contexts: &[u8],
-    stats: &[u8],
-    p: Params,
-    block: &[i32],
-) -> u32
-    ensures { λ r. ⌜ r ≡ payloadChecks (now (bytes .entry)) e (now (contexts .entry)) (now (stats .entry)) p (now (block .entry)) ⌝ }
-{
-    let a = payload_refusal(bytes);
-    if a != 0 {
-        return a;
-    }
-    let b = parameter_refusal(p, block);
-    if b != 0 {
-        return b;
-    }
-    let c = state_refusal(bytes, e);
-    if c != 0 {
-        return c;
-    }
-    let d = above_refusal(contexts, 127);
-    if d != 0 {
-        return d;
-    }
-    let f = above_refusal(stats, 84);
-    if f != 0 {
-        return f;
-    }
-    if e.ended {
-        return 6;
-    }
-    0
-}
+ghost use Rattle.hevc_residual.specs.Answers.{payloadRead, binsRead, payloadChecks};
+ghost use Rattle.hevc_reader.specs.EntriesAgree.{blockedNo, SaysInto};
 
 fn blocked_refusal(r: Blocked) -> u32
     ensures { λ n. ⌜ n ≡ blockedNo r ⌝ }
@@ -85,18 +34,6 @@ fn blocked_refusal(r: Blocked) -> u32
     match r {
         Blocked::Got(_, _) => 0,
         Blocked::Refused(r) => r.number,
-    }
-}
-
-// Zero in the first n places.
-fn clear(block: &mut [i32], n: usize)
-    requires { ⌜ n ≤ length (now block) ⌝ }
-    ensures { λ _. ⌜ now (block .exit) ≡ replicate n (pos 0) ++ drop n (now (block .entry)) ⌝ }
-{
-    let mut i: usize = 0;
-    while i < n {
-        block[i] = 0;
-        i += 1;
     }
 }
 

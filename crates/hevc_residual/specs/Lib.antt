@@ -10,6 +10,7 @@ pub mod Residual
 pub mod Refusal
 pub mod Numbers
 pub mod Entries
+pub mod Answers
 pub mod Limits
 pub mod LimitLaws
 pub mod ReachLaws

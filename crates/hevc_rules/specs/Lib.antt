@@ -8,16 +8,13 @@ pub mod LevelsAgree
 pub mod DueLaws
 pub mod BehindLaws
 pub mod SpotLaws
-pub mod SignLaws
 pub mod LevelLaws
 pub mod CoeffsAgree
 pub mod CoeffsLaws
 pub mod SubsAgree
-pub mod ChecksAgree
 pub mod SmallLaws
 pub mod SubsLaws
 pub mod SubCode
 pub mod WalkLaws
 pub mod WalkCode
 pub mod BlockLaws
-pub mod ChecksLaws

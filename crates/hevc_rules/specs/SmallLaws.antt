@@ -1,5 +1,5 @@
 -- The small choices of a sub-block's code. Assumes nothing.
-use Prim.Native.Nat.{ℕ, suc, _+_, _-_, _*_, _%_, _^_, _≤_, _<_}
+use Prim.Native.Nat.{ℕ, suc, _+_, _-_, _*_, _%_, _≤_, _<_}
 use mathlib.Core.Path.{_≡_, refl, sym, ap, _∙_}
 use mathlib.Core.Bool.{Bool, true, false, not, _||_, cond}
 use mathlib.Core.List.{List, [], _∷_}
@@ -84,29 +84,3 @@ set-more luma i first carry n q z h = (rw (q, z) (ap (λ k. k + 1) (h .0)), omeg
 pub set-same : (luma : Bool) (i : ℕ) (first : Bool) (carry n : ℕ) → first ≡ false → (carry ≡ 0 → ⊥) → (n ≡ cond (eqb i 0 || not luma) 0 2) × (n ≤ 2)
     → (n ≡ ctxSetBy luma i first carry) × (n ≤ 3)
 set-same luma i first carry n q z h = (h .0 ∙ rw (q, ne-eqb carry 0 z) (omega arith), omega (arith, h .1))
-
--- ---- how many sub-blocks
-pub grid-two : (n : ℕ) → n ≡ 2 → (1 ≡ 4 ^ (n - 2)) × (1 ≤ 64)
-grid-two n q = (ap (λ k. 4 ^ (k - 2)) (sym q), omega arith)
-
-pub grid-three : (n : ℕ) → n ≡ 3 → (4 ≡ 4 ^ (n - 2)) × (4 ≤ 64)
-grid-three n q = (ap (λ k. 4 ^ (k - 2)) (sym q), omega arith)
-
-pub grid-four : (n : ℕ) → n ≡ 4 → (16 ≡ 4 ^ (n - 2)) × (16 ≤ 64)
-grid-four n q = (ap (λ k. 4 ^ (k - 2)) (sym q), omega arith)
-
-pub grid-five : (n : ℕ) → (2 ≤ n) × (n ≤ 5) → (n ≡ 2 → ⊥) → (n ≡ 3 → ⊥) → (n ≡ 4 → ⊥) → (64 ≡ 4 ^ (n - 2)) × (64 ≤ 64)
-grid-five n h a b c = let q : 5 ≡ n = omega arith in (ap (λ k. 4 ^ (k - 2)) q, omega arith)
-
--- ---- how many sub-blocks stand in a row
-pub width-two : (n : ℕ) → n ≡ 2 → 1 ≡ 2 ^ (n - 2)
-width-two n q = ap (λ k. 2 ^ (k - 2)) (sym q)
-
-pub width-three : (n : ℕ) → n ≡ 3 → 2 ≡ 2 ^ (n - 2)
-width-three n q = ap (λ k. 2 ^ (k - 2)) (sym q)
-
-pub width-four : (n : ℕ) → n ≡ 4 → 4 ≡ 2 ^ (n - 2)
-width-four n q = ap (λ k. 2 ^ (k - 2)) (sym q)
-
-pub width-five : (n : ℕ) → (2 ≤ n) × (n ≤ 5) → (n ≡ 2 → ⊥) → (n ≡ 3 → ⊥) → (n ≡ 4 → ⊥) → 8 ≡ 2 ^ (n - 2)
-width-five n h a b c = let q : 5 ≡ n = omega arith in ap (λ k. 2 ^ (k - 2)) q

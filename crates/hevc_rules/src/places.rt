@@ -1,8 +1,8 @@
 // Places of a sub-block's scan, packed, and the contexts of sig_coeff_flag.
 use hevc_residual::params::Params;
-use hevc_scans::significance::map_word;
-use hevc_scans::significance::near_word;
-use hevc_scans::significance::plus;
+use hevc_significance::significance::map_word;
+use hevc_significance::significance::near_word;
+use hevc_significance::significance::plus;
 ghost use mathlib.Core.Path.{_≡_};
 ghost use mathlib.Core.Bool.{cond, _&&_};
 ghost use mathlib.Core.List.{[], _∷_, _++_};

@@ -7,9 +7,9 @@ use lib.IntN.{ℤ}
 use lib.ListN.{length, take, drop}
 use Rattle.cabac.specs.Numbers.{accepted}
 use Rattle.trees.specs.Outcome as every
-use Rattle.hevc_writer.specs.declared.entries.Written.{Written}
-use Rattle.hevc_writer.specs.declared.entries.Written.the-variants as listed
-use Rattle.hevc_writer.specs.EntriesPuts.{writtenSays}
+use Rattle.hevc_residual.specs.declared.answers.Written.{Written}
+use Rattle.hevc_residual.specs.declared.answers.Written.the-variants as listed
+use Rattle.hevc_residual.specs.Answers.{writtenSays}
 use Rattle.hevc_writer.specs.Demand3.{told-list}
 use Rattle.hevc_cross.specs.Entries.{componentRefusal, readBins, BinsWritten, writeBins}
 use Rattle.hevc_cross.specs.Exact.{ReadsAs, scale-exactly, write-read, read-write}

@@ -5,8 +5,8 @@ use lib.IntN.{ℤ}
 use Rattle.bins.specs.declared.state.Engine.{Engine}
 use Rattle.cabac.specs.Numbers.{Answer, accepted, refused, _orElse_, payloadRefusal, stateRefusal, endedRefusal}
 use Rattle.hevc_residual.specs.Numbers.{contextsRefusal}
-use Rattle.hevc_writer.specs.declared.entries.Written.{Written}
-use Rattle.hevc_writer.specs.EntriesPuts.{writtenSays}
+use Rattle.hevc_residual.specs.declared.answers.Written.{Written}
+use Rattle.hevc_residual.specs.Answers.{writtenSays}
 use Rattle.hevc_scale_syntax.specs.declared.syntax.Scaled.{Scaled}
 use Rattle.hevc_scale_syntax.specs.declared.syntax.Scaled.the-variants as scaled
 use Rattle.hevc_scale.specs.declared.entries.Read.{Read}

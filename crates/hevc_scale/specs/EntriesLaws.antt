@@ -28,8 +28,8 @@ use Rattle.cabac.specs.Numbers.{Answer, accepted, refused, _orElse_, payloadRef
 use Rattle.cabac.specs.NumberLaws.{or-else-first, or-else-rest, or-else-zero, payload-passed, state-fits, state-counts, state-runs}
 use Rattle.hevc_residual.specs.Numbers.{contextsRefusal}
 use Rattle.hevc_elements.specs.Agree.{Reads, from, reads-on}
-use Rattle.hevc_rules.specs.ChecksAgree.{aboveRefusal}
-use Rattle.hevc_rules.specs.ChecksLaws.{above-contexts, contexts-packed}
+use Rattle.hevc_checks.specs.ChecksAgree.{aboveRefusal}
+use Rattle.hevc_checks.specs.ChecksLaws.{above-contexts, contexts-packed}
 use Rattle.hevc_scale_syntax.specs.declared.syntax.Scaled.{Scaled}
 use Rattle.hevc_scale_syntax.specs.declared.syntax.Scaled.the-variants as scaled
 use Rattle.hevc_scale.specs.declared.entries.Read.the-variants as read

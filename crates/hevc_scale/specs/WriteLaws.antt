@@ -18,7 +18,7 @@ use Rattle.hevc_residual.specs.Remainder.{signed}
 use Rattle.pen.specs.declared.room.Pen.{Pen}
 use Rattle.pen.specs.Sheet.{Sheet, sheet, entered, enteredAll, Wrote, Counts}
 use Rattle.pen.specs.SheetLaws.{wrote-none, wrote-on, wrote-bin, wrote-call}
-use Rattle.hevc_writer.specs.declared.entries.Written.the-variants as listed
+use Rattle.hevc_residual.specs.declared.answers.Written.the-variants as listed
 use Rattle.pen.specs.RoomPuts.{penAt, counted-same, counted-long, counted-short, written-all}
 use Rattle.hevc_cross.specs.Scale.{atValue, atSign, magnitude, valueS, signS, scaleS, isScale, scale}
 use Rattle.hevc_cross.specs.ScaleLaws.{rising, rises, scale-same, signed-back, zero-back}

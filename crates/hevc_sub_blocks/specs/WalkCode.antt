@@ -13,7 +13,7 @@ use Rattle.hevc_residual.specs.Wanted.{area, width}
 use Rattle.hevc_head.specs.declared.head.Head.{Head}
 use Rattle.hevc_elements.specs.Agree.{Reads}
 use Rattle.hevc_rules.specs.declared.coeffs.Carry.{Carry}
-use Rattle.hevc_levels.specs.declared.levels.Stored.{Stored}
+use Rattle.hevc_stored.specs.declared.stored.Stored.{Stored}
 use Rattle.hevc_subblock.specs.declared.coeffs.Carried.{Carried}
 use Rattle.hevc_subblock.specs.declared.coeffs.Carried.the-variants as carried
 use Rattle.hevc_residual.specs.Limits.{Statistics}

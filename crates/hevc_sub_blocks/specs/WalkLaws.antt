@@ -20,7 +20,7 @@ use Rattle.hevc_head.specs.HeadAgree.{headOf}
 use Rattle.hevc_elements.specs.Agree.{Reads, from, reads-on}
 use Rattle.hevc_elements.specs.ShapeLaws.{run-done}
 use Rattle.hevc_rules.specs.declared.coeffs.Carry.{Carry}
-use Rattle.hevc_levels.specs.declared.levels.Stored.{Stored}
+use Rattle.hevc_stored.specs.declared.stored.Stored.{Stored}
 use Rattle.hevc_subblock.specs.declared.coeffs.Carried.{Carried}
 use Rattle.hevc_subblock.specs.declared.coeffs.Carried.the-variants as carried
 use Rattle.hevc_residual.specs.Limits.{Statistics}

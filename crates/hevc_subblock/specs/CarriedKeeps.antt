@@ -5,10 +5,10 @@ use lib.IntN.{ℤ}
 use Rattle.bins.specs.declared.state.Interval.{Interval}
 use Rattle.hevc_residual.specs.declared.params.Params.{Params}
 use Rattle.hevc_rules.specs.declared.coeffs.Carry.{Carry}
-use Rattle.hevc_levels.specs.declared.levels.Stored.{Stored}
+use Rattle.hevc_stored.specs.declared.stored.Stored.{Stored}
 use Rattle.hevc_subblock.specs.declared.coeffs.Carried.{Carried}
 use Rattle.hevc_subblock.specs.declared.coeffs.Carried.the-variants as carried
-use Rattle.hevc_levels.specs.StoredAgree.{Keeps}
+use Rattle.hevc_stored.specs.StoredAgree.{Keeps}
 
 abbrev pub KeepsOn : Params → Carried → List ℤ → Type 0
 KeepsOn p (carried.Got c k y) levels = Keeps p k levels

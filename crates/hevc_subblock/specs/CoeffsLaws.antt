@@ -36,7 +36,7 @@ use Rattle.hevc_subblock.specs.declared.greater.Greater.{Greater}
 use Rattle.hevc_subblock.specs.declared.greater.Greaters.{Greaters}
 use Rattle.hevc_subblock.specs.declared.greater.Greaters.the-variants as greaters
 use Rattle.hevc_rules.specs.declared.levels.Going.{Going}
-use Rattle.hevc_levels.specs.declared.levels.Stored.{Stored}
+use Rattle.hevc_stored.specs.declared.stored.Stored.{Stored}
 use Rattle.hevc_levels.specs.declared.levels.Leveled.{Leveled}
 use Rattle.hevc_levels.specs.declared.levels.Leveled.the-variants as leveled
 use Rattle.hevc_rules.specs.declared.coeffs.Carry.{Carry}

@@ -18,12 +18,12 @@ use hevc_coeff_rules::coeffs::sb_type;
 use hevc_elements::shapes::flag_if;
 use hevc_head::head::Head;
 use hevc_levels::levels::Leveled;
-use hevc_levels::levels::Stored;
 use hevc_levels::levels::read_levels;
 use hevc_residual::params::Params;
 use hevc_rules::coeffs::Carry;
 use hevc_rules::levels::Going;
 use hevc_rules::places::Places;
+use hevc_stored::stored::Stored;
 ghost use mathlib.Core.Path.{_≡_};
 ghost use Prim.Native.Nat.{_≤_, _<_};
 ghost use lib.ListN.{length};
@@ -39,7 +39,7 @@ ghost use Rattle.hevc_rules.specs.LevelsAgree.{Site};
 ghost use Rattle.hevc_residual.specs.Limits.{Statistics};
 ghost use Rattle.hevc_rules.specs.CoeffsAgree.{Carries};
 ghost use Rattle.hevc_subblock.specs.CoeffsAgree.{SaysCoeffs, alignedIf, greatersRefusal, leveledRefusal};
-ghost use Rattle.hevc_levels.specs.StoredAgree.{Keeps};
+ghost use Rattle.hevc_stored.specs.StoredAgree.{Keeps};
 ghost use Rattle.hevc_subblock.specs.CarriedKeeps.{KeepsOn};
 
 pub enum Carried {

@@ -12,9 +12,9 @@ use Rattle.hevc_summary.specs.declared.reading.ListInto.{ListInto}
 use Rattle.hevc_summary.specs.Entries.{After, setLevel, KeptRead, KeptList}
 use Rattle.cabac.specs.Numbers.{Answer}
 use Rattle.hevc_residual.specs.Entries.{Found, FoundAt}
-use Rattle.hevc_reader.specs.declared.entries.Read.{Read}
-use Rattle.hevc_reader.specs.declared.entries.ReadList.{ReadList}
-use Rattle.hevc_reader.specs.EntriesAgree.{payloadRead, binsRead}
+use Rattle.hevc_residual.specs.declared.answers.Read.{Read}
+use Rattle.hevc_residual.specs.declared.answers.ReadList.{ReadList}
+use Rattle.hevc_residual.specs.Answers.{payloadRead, binsRead}
 
 -- a lent block with its records
 abbrev pub keptOf : List ℤ → List ℕ → List ℕ → Whole → Kept

@@ -14,12 +14,12 @@ use Rattle.hevc_residual.specs.declared.params.Params.{Params}
 use Rattle.hevc_residual.specs.Numbers.{parameterRefusal}
 use Rattle.hevc_residual.specs.Remainder.{log2TransformRange}
 use Rattle.hevc_residual.specs.Entries.{FoundAt, Found, PayloadRead, BinsRead, readPayload, readBins}
-use Rattle.hevc_block.specs.declared.block.Found.{Found as Found′}
-use Rattle.hevc_reader.specs.declared.entries.Read.{Read}
-use Rattle.hevc_reader.specs.declared.entries.Read.the-variants as read
-use Rattle.hevc_reader.specs.declared.entries.ReadList.{ReadList}
-use Rattle.hevc_reader.specs.declared.entries.ReadList.the-variants as readlist
-use Rattle.hevc_reader.specs.EntriesAgree.{payloadRead, binsRead}
+use Rattle.hevc_residual.specs.declared.answers.Found.{Found as Found′}
+use Rattle.hevc_residual.specs.declared.answers.Read.{Read}
+use Rattle.hevc_residual.specs.declared.answers.Read.the-variants as read
+use Rattle.hevc_residual.specs.declared.answers.ReadList.{ReadList}
+use Rattle.hevc_residual.specs.declared.answers.ReadList.the-variants as readlist
+use Rattle.hevc_residual.specs.Answers.{payloadRead, binsRead}
 use Rattle.hevc_summary.specs.declared.kept.Form.{Form}
 use Rattle.hevc_summary.specs.declared.kept.Whole.{Whole}
 use Rattle.hevc_summary.specs.Summary.{Kept}

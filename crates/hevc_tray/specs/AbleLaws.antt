@@ -30,8 +30,8 @@ use Rattle.hevc_residual.specs.Numbers.{parameterRefusal, contextsRefusal, stat
 use Rattle.hevc_residual.specs.Entries.{FoundAt, PayloadRead, blockWith, cleared, foundOf, readByEngine, readPayloadBy, readPayload}
 use Rattle.hevc_bounds.specs.Pieces.{binsMost, residualBounds}
 use Rattle.hevc_bounds.specs.ResidualBounds.{Whole, kept-none, residual-each}
-use Rattle.hevc_reader.specs.EntriesAgree.{payloadChecks}
-use Rattle.hevc_rules.specs.ChecksLaws.{contexts-packed}
+use Rattle.hevc_residual.specs.Answers.{payloadChecks}
+use Rattle.hevc_checks.specs.ChecksLaws.{contexts-packed}
 
 -- ---- the checks that do not look at a block
 pub record Able (l : List ℕ) (e : Engine) (contexts stats : List ℕ) : Type 0 where

@@ -18,8 +18,8 @@ use Rattle.hevc_residual.specs.Wanted.{area}
 use Rattle.hevc_residual.specs.Limits.{Accepted}
 use Rattle.hevc_residual.specs.LimitLaws.{parameter-passed}
 use Rattle.hevc_residual.specs.Numbers.{withinLimits, parameterRefusal, contextsRefusal, statisticsRefusal}
-use Rattle.hevc_rules.specs.ChecksAgree.{aboveRefusal}
-use Rattle.hevc_rules.specs.ChecksLaws.{above-contexts, above-statistics}
+use Rattle.hevc_checks.specs.ChecksAgree.{aboveRefusal}
+use Rattle.hevc_checks.specs.ChecksLaws.{above-contexts, above-statistics}
 use Rattle.hevc_tray.specs.Rows.{paramsOf, recordsOf, four, flagsRefusal, rowsRefusal}
 use Rattle.hevc_tray.specs.Tray.{countRefusal, recordsRefusal, roomsRefusal, trayChecks}
 

@@ -10,7 +10,7 @@ use Rattle.hevc_residual.specs.declared.params.Params.{Params}
 use Rattle.hevc_residual.specs.declared.params.Rdpcm.{Rdpcm}
 use Rattle.hevc_residual.specs.declared.params.Rdpcm.the-variants as rdpcm
 use Rattle.hevc_residual.specs.Entries.{Found}
-use Rattle.hevc_rules.specs.ChecksAgree.{aboveRefusal}
+use Rattle.hevc_checks.specs.ChecksAgree.{aboveRefusal}
 
 abbrev pub paramsOf : List ℕ → Params
 paramsOf row =

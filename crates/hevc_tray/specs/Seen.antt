@@ -2,10 +2,10 @@
 use Prim.Native.Nat.{ℕ}
 use mathlib.Core.List.{List}
 use lib.IntN.{ℤ}
-use Rattle.hevc_block.specs.declared.block.Found.{Found}
-use Rattle.hevc_reader.specs.declared.entries.Read.{Read}
-use Rattle.hevc_reader.specs.declared.entries.Read.the-variants as read
-use Rattle.hevc_reader.specs.EntriesAgree.{foundSeen}
+use Rattle.hevc_residual.specs.declared.answers.Found.{Found}
+use Rattle.hevc_residual.specs.declared.answers.Read.{Read}
+use Rattle.hevc_residual.specs.declared.answers.Read.the-variants as read
+use Rattle.hevc_residual.specs.Answers.{foundSeen}
 use Rattle.hevc_tray.specs.Rows.{foundRow}
 use Rattle.hevc_tray.specs.Tray as definition
 use Rattle.hevc_tray.specs.Tray.{TrayRead}

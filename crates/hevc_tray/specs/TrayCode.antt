@@ -20,10 +20,10 @@ use Rattle.hevc_residual.specs.LimitLaws.{parameter-passed, parameter-same}
 use Rattle.hevc_residual.specs.Numbers.{parameterRefusal, contextsRefusal, statisticsRefusal}
 use Rattle.hevc_residual.specs.Entries as entries
 use Rattle.hevc_residual.specs.Entries.{FoundAt, PayloadRead, readPayload}
-use Rattle.hevc_block.specs.declared.block.Found.{Found}
-use Rattle.hevc_reader.specs.declared.entries.Read.{Read}
-use Rattle.hevc_reader.specs.declared.entries.Read.the-variants as read
-use Rattle.hevc_reader.specs.EntriesAgree.{foundSeen, payloadRead, payloadChecks}
+use Rattle.hevc_residual.specs.declared.answers.Found.{Found}
+use Rattle.hevc_residual.specs.declared.answers.Read.{Read}
+use Rattle.hevc_residual.specs.declared.answers.Read.the-variants as read
+use Rattle.hevc_residual.specs.Answers.{foundSeen, payloadRead, payloadChecks}
 use Rattle.hevc_tray.specs.Rows.{paramsOf, recordsOf, rowsRefusal, foundRow, foundRows}
 use Rattle.hevc_tray.specs.Tray.{Tray, behind, onBlock, tray, recordsRefusal, countRefusal, roomsRefusal, trayChecks, TrayRead, laid, untouched, readTrayBy, readTray, readRows}
 use Rattle.hevc_tray.specs.Seen.{rowOf, readNo, traySeen}

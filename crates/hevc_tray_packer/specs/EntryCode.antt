@@ -17,8 +17,8 @@ use Rattle.hevc_residual.specs.Residual.{Block}
 use Rattle.hevc_residual.specs.Limits.{Statistics}
 use Rattle.hevc_residual.specs.LimitLaws.{statistics-passed}
 use Rattle.hevc_residual.specs.Numbers.{withinLimits, parameterRefusal, contextsRefusal, statisticsRefusal}
-use Rattle.hevc_rules.specs.ChecksAgree.{aboveRefusal}
-use Rattle.hevc_rules.specs.ChecksLaws.{above-contexts, above-statistics, contexts-packed}
+use Rattle.hevc_checks.specs.ChecksAgree.{aboveRefusal}
+use Rattle.hevc_checks.specs.ChecksLaws.{above-contexts, above-statistics, contexts-packed}
 use Rattle.hevc_tray.specs.Rows.{paramsOf, recordsOf, rowsRefusal}
 use Rattle.packing.specs.Packs.{entriesMost}
 use Rattle.packing.specs.Entries.{BinsPacked, notPacked, packInto, packList, packTree}

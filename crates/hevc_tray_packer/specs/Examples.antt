@@ -16,7 +16,7 @@ use Rattle.hevc_residual.specs.Head.{leastOf, lastPrefix, groupsS, headS}
 use Rattle.hevc_residual.specs.Remainder.{remainderS}
 use Rattle.hevc_residual.specs.Residual.{residual}
 use Rattle.hevc_residual.specs.Numbers.{withinLimits, parameterRefusal, contextsRefusal, statisticRefusal, statisticsRefusal}
-use Rattle.hevc_rules.specs.ChecksAgree.{aboveRefusal}
+use Rattle.hevc_checks.specs.ChecksAgree.{aboveRefusal}
 use Rattle.hevc_tray.specs.Rows.{recordsOf, four, flagsRefusal, rowsRefusal}
 use Rattle.packing.specs.Pack.{kindOf, entriesOf, encoded, ctxAfter, packedBin, packedEntry, packed, octets, filled, flushed, payloadOf}
 use Rattle.packing.specs.Entries.{packIntoBy, packInto, packList, packTree}

@@ -22,7 +22,7 @@ use Rattle.hevc_residual.specs.Limits.{Statistics}
 use Rattle.hevc_residual.specs.LimitLaws.{parameter-passed}
 use Rattle.hevc_residual.specs.Numbers.{parameterRefusal}
 use Rattle.hevc_elements.specs.Agree.{Reads, from, reads-on}
-use Rattle.hevc_block.specs.declared.block.Found.{Found}
+use Rattle.hevc_residual.specs.declared.answers.Found.{Found}
 use Rattle.hevc_block.specs.declared.block.Blocked.{Blocked}
 use Rattle.hevc_block.specs.declared.block.Blocked.the-variants as blocked
 use Rattle.hevc_block.specs.BlockAgree.{blockOf, SaysBlock}

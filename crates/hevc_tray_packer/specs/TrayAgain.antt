@@ -20,7 +20,7 @@ use Rattle.hevc_residual.specs.Residual.{Block}
 use Rattle.hevc_residual.specs.LimitLaws.{parameter-passed}
 use Rattle.hevc_residual.specs.Numbers.{parameterRefusal}
 use Rattle.hevc_residual.specs.Entries.{Found, FoundAt, PayloadRead, foundOf, blockWith, readPayloadBy, readPayload}
-use Rattle.hevc_reader.specs.EntriesAgree.{payloadChecks}
+use Rattle.hevc_residual.specs.Answers.{payloadChecks}
 use Rattle.hevc_tray.specs.Rows.{paramsOf, recordsOf, rowsRefusal, foundRows}
 use Rattle.hevc_tray.specs.Tray as reader
 use Rattle.hevc_tray.specs.Tray.{Tray, TrayRead, onBlock, tray, readTrayBy, readTray, readRows}

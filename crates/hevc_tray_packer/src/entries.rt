@@ -2,8 +2,8 @@
 // It takes anything: what is not accepted is answered by its number. Contexts and statistics are read only.
 use crate::lists::read_lists;
 use bins::tags::CONTEXTS;
-use hevc_rules::checks::above_refusal;
-use hevc_rules::checks::parameter_refusal;
+use hevc_checks::checks::above_refusal;
+use hevc_checks::checks::parameter_refusal;
 use hevc_tray_reader::rows::params_of;
 use hevc_tray_reader::rows::rows_refusal;
 use packer::list::Packing;

@@ -1,8 +1,8 @@
 // A record of parameters, and what is found of a block, as rows of numbers: a slice of structs cannot be lent.
-use hevc_block::block::Found;
+use hevc_checks::checks::above_refusal;
+use hevc_residual::answers::Found;
 use hevc_residual::params::Params;
 use hevc_residual::params::Rdpcm;
-use hevc_rules::checks::above_refusal;
 ghost use mathlib.Core.Path.{_≡_};
 ghost use Rattle.bins.specs.Engine.{bitNo};
 ghost use Rattle.hevc_tray.specs.Rows.{paramsOf, rdpcmNo, flagsRefusal, rowsRefusal};

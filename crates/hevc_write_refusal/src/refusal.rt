@@ -1,4 +1,5 @@
 // What a writer refuses of a block, in document 01's order: 9, 10, 8, 11. Each is looked for over all n·n places.
+use hevc_checks::sizes::grid;
 use hevc_coeff_rules::coeffs::hidden;
 use hevc_head::head::Head;
 use hevc_head::head::rdpcm_coded;
@@ -8,7 +9,6 @@ use hevc_remainder::remainder::range_bits;
 use hevc_residual::params::Params;
 use hevc_residual::params::Rdpcm;
 use hevc_rules::places::Places;
-use hevc_rules::sizes::grid;
 use hevc_scans::orders::inner_order;
 use hevc_scans::orders::outer_order;
 use hevc_wanted::sub::corner_at;

@@ -12,9 +12,9 @@ use Rattle.hevc_residual.specs.Numbers.{parameterRefusal, statisticsRefusal}
 use Rattle.hevc_residual.specs.Entries.{BinsWritten, wantedFrom, writeBins}
 use Rattle.trees.specs.Outcome as every
 use Rattle.hevc_exact.specs.Exact.{ReadsAs, block-exactly}
-use Rattle.hevc_writer.specs.declared.entries.Written.{Written}
-use Rattle.hevc_writer.specs.declared.entries.Written.the-variants as listed
-use Rattle.hevc_writer.specs.EntriesPuts.{writtenSays, binsWritten}
+use Rattle.hevc_residual.specs.declared.answers.Written.{Written}
+use Rattle.hevc_residual.specs.declared.answers.Written.the-variants as listed
+use Rattle.hevc_residual.specs.Answers.{writtenSays, binsWritten}
 
 -- ---- demand 3: r is the answer, room′ the room behind it
 abbrev pub Exactly : Params → List ℕ → List ℤ → Bool → Rdpcm → List ℕ → Written → List ℕ → Type 0

@@ -2,42 +2,34 @@
 use Prim.Native.Nat.{ℕ, zero, suc, _+_, _≤_, _<_}
 use mathlib.Core.Path.{_≡_, refl, sym, ap, subst, _∙_}
 use mathlib.Core.Bool.{Bool, true, false, not, cond}
-use mathlib.Core.List.{List, [], _∷_, _++_}
+use mathlib.Core.List.{List, [], _++_}
 use native.Mathlib.Omega.{arith}
 use lib.IntN.{ℤ}
 use lib.ListN.{length, take, drop}
 use lib.Seq.{length-take-le}
-use lib.Dec.{ltb, leb}
+use lib.Dec.{leb}
 use borrow.Author.Tests.{lt-ltb, le-ltb, lt-leb, le-leb, leb-true, leb-false}
-use Rattle.bins.specs.Syn.{done, Written, write}
-use Rattle.cabac.specs.Numbers.{Answer, accepted, refused, _orElse_}
+use Rattle.bins.specs.Syn.{Written, write}
+use Rattle.cabac.specs.Numbers.{_orElse_}
 use Rattle.hevc_residual.specs.declared.params.Params.{Params}
 use Rattle.hevc_residual.specs.declared.params.Rdpcm.{Rdpcm}
 use Rattle.hevc_residual.specs.Wanted.{Wanted, area}
 use Rattle.hevc_residual.specs.Refusal.{writeRefusal}
 use Rattle.hevc_residual.specs.Residual.{Block, residual}
 use Rattle.hevc_residual.specs.Numbers.{parameterRefusal, statisticsRefusal, roomRefusal}
-use Rattle.hevc_residual.specs.Entries.{BinsWritten, wantedFrom, notWritten, writeListBy, writeList, writeBinsBy, writeBins}
+use Rattle.hevc_residual.specs.Answers.{binsWritten}
+use Rattle.hevc_residual.specs.Entries.{wantedFrom, notWritten, writeListBy, writeList, writeBinsBy, writeBins}
 use Rattle.hevc_residual.specs.Limits.{Accepted, Statistics}
 use Rattle.hevc_residual.specs.LimitLaws.{parameter-passed, statistics-passed}
-use Rattle.hevc_rules.specs.ChecksAgree.{binsChecks}
+use Rattle.hevc_checks.specs.ChecksAgree.{binsChecks}
 use Rattle.hevc_exact.specs.RefusalLaws.{refusal-near}
 use Rattle.hevc_exact.specs.Exact as exact
 use Rattle.hevc_longest.specs.Longest.{longest, longest-enough}
 use Rattle.pen.specs.declared.room.Pen.{Pen}
-use Rattle.pen.specs.Sheet.{Sheet, sheet, enteredAll, Wrote}
-use Rattle.hevc_writer.specs.declared.entries.Written as code
-use Rattle.hevc_writer.specs.declared.entries.Written.the-variants as listed
+use Rattle.pen.specs.Sheet.{Sheet, sheet, enteredAll}
+use Rattle.hevc_residual.specs.declared.answers.Written.the-variants as listed
 use Rattle.pen.specs.RoomPuts.{penAt, counted-same, counted-long, counted-short, written-all}
 use Rattle.hevc_block_pen.specs.BlockPuts.{wantedOf, Spells}
-
--- ---- the answer with document 01's numbers
-abbrev pub writtenSays : code.Written → Answer ℕ
-writtenSays (listed.List n) = accepted n
-writtenSays (listed.Refused n) = refused n
-
-abbrev pub binsWritten : code.Written → List ℕ → List ℕ → BinsWritten
-binsWritten r stats room = record { answer = writtenSays r; stats = stats; room = room }
 
 -- ---- the checks, one before the other
 first-no : (a b c n : ℕ) → n ≡ (a orElse b) → (n ≡ 0 → ⊥) → (a orElse b orElse c) ≡ n

@@ -1,14 +1,15 @@
 // The entry point: a block as a list of bins in a lent room.
 // It takes anything: what document 01 does not accept is answered by its number.
 use hevc_block_pen::subs::put_sub_blocks;
+use hevc_checks::checks::bins_checks;
+use hevc_checks::sizes::area_of;
+use hevc_checks::sizes::grid;
 use hevc_head::head::Head;
 use hevc_longest::longest_list;
 use hevc_pen::head::put_head;
+use hevc_residual::answers::Written;
 use hevc_residual::params::Params;
 use hevc_residual::params::Rdpcm;
-use hevc_rules::checks::bins_checks;
-use hevc_rules::sizes::area_of;
-use hevc_rules::sizes::grid;
 use hevc_scans::orders::inner_order;
 use hevc_scans::orders::outer_order;
 use hevc_wanted::last::last_wanted;
@@ -22,14 +23,9 @@ ghost use Rattle.hevc_residual.specs.Limits.{Accepted, Statistics};
 ghost use Rattle.hevc_residual.specs.Entries.{writeBins};
 ghost use Rattle.pen.specs.Sheet.{sheet};
 ghost use Rattle.hevc_block_pen.specs.BlockPuts.{wantedOf, Spells};
-ghost use Rattle.hevc_writer.specs.EntriesPuts.{binsWritten, Goes};
+ghost use Rattle.hevc_residual.specs.Answers.{binsWritten};
+ghost use Rattle.hevc_writer.specs.EntriesPuts.{Goes};
 ghost use Rattle.hevc_writer.specs.Demand3.{Exactly};
-
-// A list by its length, or the number of the refusal.
-pub enum Written {
-    List(usize),
-    Refused(u32),
-}
 
 // The whole block, of which nothing is refused.
 pub fn put_block(

@@ -3,36 +3,13 @@
 // These functions promise nothing but to end: the steps are heat's, what stands at a place is figures'.
 use figures::add::Totals;
 use figures_read::out::at_place;
+use grid_places::places::place;
+use grid_places::places::side;
 use heat::grey;
 use heat::mark;
 use heat::shade;
 use text::write;
-ghost use mathlib.Core.Path.{_≡_};
-ghost use Prim.Native.Nat.{_+_, _*_, _≤_, _<_};
-
-fn side(log2: u32) -> usize
-    ensures { λ r. ⌜ r ≤ 32 ⌝ }
-{
-    match log2 {
-        2 => 4,
-        3 => 8,
-        4 => 16,
-        _ => 32,
-    }
-}
-
-// The place of a row and a column.
-fn place(log2: u32, row: usize, column: usize) -> usize
-    requires { ⌜ (row < 32) × (column < 32) ⌝ }
-    ensures { λ r. ⌜ r ≤ 1023 ⌝ }
-{
-    match log2 {
-        2 => row * 4 + column,
-        3 => row * 8 + column,
-        4 => row * 16 + column,
-        _ => row * 32 + column,
-    }
-}
+ghost use Prim.Native.Nat.{_+_, _*_, _<_};
 
 fn character(b: u8) {
     let alone = [b];

@@ -3,7 +3,7 @@ use book_lines::pending::Pending;
 use book_lines::pending::push;
 use morning_add::adding::Sizes;
 use morning_add::adding::add_event;
-use morning_add::event::read_line;
+use morning_lines::event::read_line;
 ghost use mathlib.Core.Path.{_≡_};
 ghost use Prim.Native.Nat.{_+_, _≤_, _<_};
 ghost use lib.ListN.{length, take};

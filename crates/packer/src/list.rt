@@ -2,12 +2,12 @@
 use bins::tags::ALIGNMENT;
 use bins::tags::BYPASS;
 use bins::tags::CONTEXTS;
+use packer_bytes::bytes::flush;
+use packer_bytes::bytes::put_out;
 use packer_steps::coder::Coder;
 use packer_steps::coder::align;
 use packer_steps::coder::bypass;
 use packer_steps::coder::decision;
-use packer_steps::coder::flush;
-use packer_steps::coder::put_out;
 use tables::decision_table;
 ghost use mathlib.Core.Path.{_≡_};
 ghost use Prim.Native.Nat.{_+_, _*_, _/_, _≤_, _<_};

@@ -7,13 +7,13 @@ use press_text::keys;
 use press_text::keys::Taken;
 use press_text::rows;
 use press_text::rows::Row;
-use press_text::tokens::end_of;
-use press_text::tokens::start_of;
 use press_text::values;
 use press_text::words;
 use press_text::words::LATE;
 use press_text::words::LONG;
 use press_text::words::NO_SIZE;
+use press_tokens::tokens::end_of;
+use press_tokens::tokens::start_of;
 use text::lines::part;
 
 // What goes on from line to line.

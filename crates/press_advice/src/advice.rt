@@ -1,9 +1,9 @@
 // Where a drawing is refused, and which single change would do.
+use hevc_checks::checks::parameter_refusal;
+use hevc_checks::sizes::area_of;
+use hevc_checks::sizes::grid;
 use hevc_remainder::remainder::range_bits;
 use hevc_residual::params::Params;
-use hevc_rules::checks::parameter_refusal;
-use hevc_rules::sizes::area_of;
-use hevc_rules::sizes::grid;
 use hevc_scans::orders::outer_order;
 use hevc_wanted::sub::corner_at;
 use press_strokes::search::first_far;

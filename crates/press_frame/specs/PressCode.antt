@@ -18,9 +18,9 @@ use Rattle.hevc_residual.specs.declared.params.Rdpcm.the-variants as ofRdpcm
 use Rattle.hevc_residual.specs.Residual.{residual}
 use Rattle.hevc_residual.specs.Entries.{BinsWritten, writeBins}
 use Rattle.hevc_exact.specs.Exact.{wrote}
-use Rattle.hevc_writer.specs.declared.entries.Written.{Written}
-use Rattle.hevc_writer.specs.declared.entries.Written.the-variants as ofWritten
-use Rattle.hevc_writer.specs.EntriesPuts.{writtenSays, binsWritten}
+use Rattle.hevc_residual.specs.declared.answers.Written.{Written}
+use Rattle.hevc_residual.specs.declared.answers.Written.the-variants as ofWritten
+use Rattle.hevc_residual.specs.Answers.{writtenSays, binsWritten}
 use Rattle.packing.specs.Entries.{BinsPacked, payloadFrom}
 use Rattle.packing.specs.EntriesLaws.{accepts-is}
 use Rattle.packer.specs.declared.list.Packing.{Packing}

@@ -1,11 +1,11 @@
 // The first place, sub-block or change of which a test holds; as many as there are, where it holds of none.
 use crate::strokes::magnitude_at;
 use crate::strokes::stroke_at;
+use hevc_checks::sizes::area_of;
+use hevc_checks::sizes::grid;
 use hevc_head::head::Head;
 use hevc_residual::params::Params;
 use hevc_residual::params::Rdpcm;
-use hevc_rules::sizes::area_of;
-use hevc_rules::sizes::grid;
 use hevc_scans::orders::inner_order;
 use hevc_scans::orders::outer_order;
 use hevc_write_refusal::refusal::disagrees_at;

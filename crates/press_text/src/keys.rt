@@ -1,6 +1,4 @@
 // The lines that begin with a word: what is settled before the block.
-use crate::tokens::end_of;
-use crate::tokens::start_of;
 use crate::words::BEHIND;
 use crate::words::DEPTH;
 use crate::words::QP;
@@ -10,11 +8,13 @@ use crate::words::VALUES;
 use crate::words::WORD;
 use bins::tags::CONTEXTS;
 use check::same;
+use press_tokens::tokens::end_of;
+use press_tokens::tokens::start_of;
 use text::lines::part;
 use text_fields::fields::Number;
 use text_fields::fields::Octets;
 use text_fields::fields::decimal;
-use text_fields::fields::hex_bytes;
+use text_octets::octets::hex_bytes;
 ghost use Prim.Native.Nat.{_≤_};
 
 // Taken; the block stands as `show` prints it; or no, from a place of the line on, for a reason of words.rt.

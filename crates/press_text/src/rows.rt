@@ -1,6 +1,4 @@
 // The lines with levels: numbers parted by blanks, a dot for 0.
-use crate::tokens::end_of;
-use crate::tokens::start_of;
 use crate::words::FEW;
 use crate::words::LEVEL;
 use crate::words::MANY;
@@ -8,6 +6,8 @@ use crate::words::ROW;
 use crate::words::ROWS;
 use bytes::scan::find;
 use check::same;
+use press_tokens::tokens::end_of;
+use press_tokens::tokens::start_of;
 use text::lines::part;
 use text_fields::fields::Number;
 use text_fields::fields::decimal;

@@ -7,9 +7,9 @@ use borrow.Author.Tests.{eqb-true, eq-eqb}
 use Rattle.bins.specs.declared.state.Engine.{Engine}
 use Rattle.hevc_residual.specs.declared.params.Rdpcm.{Rdpcm}
 use Rattle.hevc_residual.specs.declared.params.Rdpcm.the-variants as rdpcm
-use Rattle.hevc_block.specs.declared.block.Found.{Found}
-use Rattle.hevc_reader.specs.declared.entries.Read.{Read}
-use Rattle.hevc_reader.specs.declared.entries.Read.the-variants as read
+use Rattle.hevc_residual.specs.declared.answers.Found.{Found}
+use Rattle.hevc_residual.specs.declared.answers.Read.{Read}
+use Rattle.hevc_residual.specs.declared.answers.Read.the-variants as read
 
 abbrev pub codeOf : Rdpcm → ℕ
 codeOf rdpcm.None = 0

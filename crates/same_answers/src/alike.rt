@@ -2,8 +2,8 @@
 use bins::state::Engine;
 use bins::tags::CONTEXTS;
 use check::same;
-use hevc_block::block::Found;
-use hevc_reader::entries::Read;
+use hevc_residual::answers::Found;
+use hevc_residual::answers::Read;
 use hevc_residual::params::Rdpcm;
 ghost use mathlib.Core.Path.{_≡_};
 ghost use mathlib.Core.Bool.{true};

@@ -1,6 +1,6 @@
 // Refusals and findings in words.
 use bins::state::Engine;
-use hevc_block::block::Found;
+use hevc_residual::answers::Found;
 use hevc_residual::params::Rdpcm;
 use text::write;
 

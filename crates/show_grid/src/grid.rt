@@ -1,30 +1,18 @@
 // The block as a grid with the numbers of rows and columns, and lines between its 4x4 sub-blocks: a dot for 0; a level of more than half the greatest magnitude
 // stands in brackets. What does not fit into 80 columns so goes without brackets, and in panels below one another where it must.
+use grid_places::places::first_of;
+use grid_places::places::side;
+use show_form::form::Form;
+use show_form::form::columns_that_fit;
+use show_form::form::digits;
+use show_form::form::form_of;
+use show_form::form::least;
+use show_form::form::less;
+use show_form::form::level;
 use text::lines::part;
 use text::write;
 use tree_shapes::levels::magnitude;
 ghost use Prim.Native.Nat.{_≤_};
-
-fn digits(n: u32) -> usize
-    ensures { λ r. ⌜ (1 ≤ r) × (r ≤ 8) ⌝ }
-{
-    if n < 10 {
-        return 1;
-    }
-    if n < 100 {
-        return 2;
-    }
-    if n < 1000 {
-        return 3;
-    }
-    if n < 10000 {
-        return 4;
-    }
-    if n < 100000 {
-        return 5;
-    }
-    8
-}
 
 // A sign and the digits.
 fn length(v: i32) -> usize
@@ -58,29 +46,6 @@ fn is_large(v: i32, greatest: u32) -> bool {
     greatest / 2 < magnitude(v)
 }
 
-// How cells are laid out: the width of one, and whether large levels stand in brackets, for which two of it are kept.
-struct Form {
-    width: usize,
-    brackets: bool,
-    greatest: u32,
-}
-
-fn bare(greatest: u32) -> Form {
-    Form {
-        width: digits(greatest) + 1,
-        brackets: false,
-        greatest,
-    }
-}
-
-fn bracketed(greatest: u32) -> Form {
-    Form {
-        width: digits(greatest) + 3,
-        brackets: true,
-        greatest,
-    }
-}
-
 fn cell(v: i32, f: Form) {
     if !f.brackets {
         number(v, f.width);
@@ -96,70 +61,6 @@ fn cell(v: i32, f: Form) {
     write::text(b" ");
     number(v, width);
     write::text(b" ");
-}
-
-fn side(log2: u32) -> usize
-    ensures { λ r. ⌜ r ≤ 32 ⌝ }
-{
-    match log2 {
-        2 => 4,
-        3 => 8,
-        4 => 16,
-        _ => 32,
-    }
-}
-
-// How many columns fit into 80 characters, whole sub-blocks of them, beside 3 for the row's number and 1 for the line before each sub-block.
-fn columns_that_fit(width: usize) -> usize
-    ensures { λ r. ⌜ (1 ≤ r) × (r ≤ 32) ⌝ }
-{
-    match width {
-        2 => 32,
-        3 => 20,
-        4 => 16,
-        5 => 12,
-        6 => 12,
-        7 => 8,
-        8 => 8,
-        9 => 8,
-        _ => 4,
-    }
-}
-
-fn form_of(log2: u32, greatest: u32) -> Form {
-    let f = bracketed(greatest);
-    if columns_that_fit(f.width) < side(log2) {
-        return bare(greatest);
-    }
-    f
-}
-
-// The place of a row's first level.
-fn first_of(log2: u32, row: usize) -> usize
-    ensures { λ r. ⌜ r ≤ 992 ⌝ }
-{
-    if 31 < row {
-        return 0;
-    }
-    match log2 {
-        2 => 4 * row,
-        3 => 8 * row,
-        4 => 16 * row,
-        _ => 32 * row,
-    }
-}
-
-fn level(block: &[i32; 1024], first: usize, column: usize) -> i32
-    requires { ⌜ first ≤ 992 ⌝ }
-{
-    if 31 < column {
-        return 0;
-    }
-    block[first + column]
-}
-
-fn less(a: usize, b: usize) -> usize {
-    if b < a { a - b } else { 0 }
 }
 
 // A row's or a column's number, right in a width.
@@ -249,10 +150,6 @@ fn panel(block: &[i32; 1024], log2: u32, from: usize, to: usize, f: Form) {
         row_of(block, log2, row, from, to, f);
         row += 1;
     }
-}
-
-fn least(a: usize, b: usize) -> usize {
-    if a < b { a } else { b }
 }
 
 // Panel by panel.

@@ -48,22 +48,22 @@ use Rattle.hevc_residual.specs.declared.params.Params.{Params}
 use Rattle.hevc_residual.specs.Entries.{readPayload}
 use Rattle.hevc_residual.proofs.params.Params as P
 use Rattle.hevc_residual.proofs.params.Params.Laws as P′
-use Rattle.hevc_reader.specs.declared.entries.Read.{Read}
-use Rattle.hevc_reader.specs.EntriesAgree.{payloadRead}
-use Rattle.hevc_reader.proofs.entries.Read as S
-use Rattle.hevc_reader.proofs.entries.Read.Laws as S′
-use Rattle.hevc_decoder.specs.declared.decoder.Decoder.{Decoder}
-use Rattle.hevc_decoder.proofs.HeldType.{B}
-use Rattle.hevc_decoder.proofs.decoder.Decoder as T
-use Rattle.hevc_decoder.proofs.decoder.Decoder.Laws as T′
-use Rattle.hevc_decoder.proofs.decoder.Decoder.new as new
-use Rattle.hevc_decoder.proofs.decoder.Decoder.new.Symbol as new-def
-use Rattle.hevc_decoder.proofs.decoder.Decoder.new.Symbol.{name as #new}
-use Rattle.hevc_decoder.proofs.decoder.Decoder.new.Met as new-thm
-use Rattle.hevc_decoder.proofs.decoder.Decoder.residual_coding as coding
-use Rattle.hevc_decoder.proofs.decoder.Decoder.residual_coding.Symbol as coding-def
-use Rattle.hevc_decoder.proofs.decoder.Decoder.residual_coding.Symbol.{name as #coding}
-use Rattle.hevc_decoder.proofs.decoder.Decoder.residual_coding.Met as coding-thm
+use Rattle.hevc_residual.specs.declared.answers.Read.{Read}
+use Rattle.hevc_residual.specs.Answers.{payloadRead}
+use Rattle.hevc_residual.proofs.answers.Read as S
+use Rattle.hevc_residual.proofs.answers.Read.Laws as S′
+use Rattle.cabac_decoder.specs.declared.decoder.Decoder.{Decoder}
+use Rattle.cabac_decoder.proofs.HeldType.{B}
+use Rattle.cabac_decoder.proofs.decoder.Decoder as T
+use Rattle.cabac_decoder.proofs.decoder.Decoder.Laws as T′
+use Rattle.cabac_decoder.proofs.decoder.Decoder.new as new
+use Rattle.cabac_decoder.proofs.decoder.Decoder.new.Symbol as new-def
+use Rattle.cabac_decoder.proofs.decoder.Decoder.new.Symbol.{name as #new}
+use Rattle.cabac_decoder.proofs.decoder.Decoder.new.Met as new-thm
+use Rattle.hevc_decoder.proofs.decoder.residual_coding as coding
+use Rattle.hevc_decoder.proofs.decoder.residual_coding.Symbol as coding-def
+use Rattle.hevc_decoder.proofs.decoder.residual_coding.Symbol.{name as #coding}
+use Rattle.hevc_decoder.proofs.decoder.residual_coding.Met as coding-thm
 use Rattle.hevc_decoder.proofs.decoder.block_through.Key.{name as #through}
 use Rattle.hevc_decoder.proofs.decoder.block_through as through
 use Rattle.hevc_decoder.proofs.decoder.block_through.Statement as stated
@@ -297,6 +297,6 @@ block-through-spec 𝓤 H 𝓜 𝓖 𝓡 =
     entered 𝓤 H (tripleOf 𝓤 H (𝓖 .A) through.signature (through.spec 𝓤 H (𝓖 .A) (𝓜 .mem) (𝓡 .run)))
     (tables 𝓤 H 𝓜 𝓡 code.env .C) (tables 𝓤 H 𝓜 𝓡 code.env .Λ) #through code.function (code.unfolded 𝓤 H 𝓜 𝓡)
     (meets 𝓤 H (𝓖 .A) (givenOf 𝓤 H 𝓜 𝓖) (𝓜 .mem) (𝓡 .run) (tablesOf 𝓤 H 𝓜 (tables 𝓤 H 𝓜 𝓡 code.env))
-    (cited 𝓤 H (New 𝓤 H (𝓖 .A) (𝓜 .mem) (𝓡 .run)) 𝓜 𝓡 code.env #new new-def.routine code.calls-hevc-decoder·decoder·Decoder·new (new-thm.met 𝓤 H 𝓜 𝓖 𝓡))
-    (cited 𝓤 H (Coding 𝓤 H (𝓖 .A) (𝓜 .mem) (𝓡 .run)) 𝓜 𝓡 code.env #coding coding-def.routine code.calls-hevc-decoder·decoder·Decoder·residual-coding
+    (cited 𝓤 H (New 𝓤 H (𝓖 .A) (𝓜 .mem) (𝓡 .run)) 𝓜 𝓡 code.env #new new-def.routine code.calls-cabac-decoder·decoder·Decoder·new (new-thm.met 𝓤 H 𝓜 𝓖 𝓡))
+    (cited 𝓤 H (Coding 𝓤 H (𝓖 .A) (𝓜 .mem) (𝓡 .run)) 𝓜 𝓡 code.env #coding coding-def.routine code.calls-hevc-decoder·decoder·residual-coding
     (coding-thm.met 𝓤 H 𝓜 𝓖 𝓡)))

@@ -3,7 +3,7 @@ use mathlib.Core.Path.{_≡_, sym, _∙_}
 use borrow.Author.Needs.{needs}
 use Rattle.cabac.specs.Numbers.{payloadRefusal}
 use Rattle.cabac.specs.NumberLaws.{payload-passed}
-use Rattle.hevc_reader.specs.EntriesAgree.{payloadChecks}
+use Rattle.hevc_residual.specs.Answers.{payloadChecks}
 use Rattle.hevc_reader.specs.EntriesLaws.{checks-passed}
 use Rattle.hevc_differ.specs.JudgementLaws.{all-past, all-place, judged-unread, judged-unreadable, judged-past, judged-place, place-here, place-never}
 use Rattle.hevc_differ.proofs.entries.judge.Statement.{statement}

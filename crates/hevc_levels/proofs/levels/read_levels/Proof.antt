@@ -4,7 +4,7 @@ use native.Mathlib.Omega.{arith}
 use borrow.Author.Needs.{needs}
 use Rattle.hevc_residual.specs.Scan.{spot}
 use Rattle.hevc_levels.specs.LevelLaws.{Leveling, levels-begin, levels-refused, levels-less, levels-on, levels-end}
-use Rattle.hevc_levels.specs.StoredAgree.{Keeps}
+use Rattle.hevc_stored.specs.StoredAgree.{Keeps}
 use Rattle.hevc_levels.specs.StoredLaws.{keeps-leveled}
 use Rattle.hevc_levels.proofs.levels.read_levels.Statement.{statement}
 use Rattle.hevc_levels.proofs.levels.read_levels.Tie as tie

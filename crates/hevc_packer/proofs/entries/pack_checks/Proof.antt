@@ -6,8 +6,8 @@ use Rattle.hevc_packer.proofs.entries.pack_checks.Statement.{statement}
 use Rattle.hevc_packer.proofs.entries.pack_checks.Tie as tie
 use Rattle.hevc_packer.proofs.entries.pack_checks.Reads as reads
 use Rattle.hevc_packer.proofs.entries.pack_checks.Lts as lts
-use Rattle.hevc_rules.proofs.checks.above_refusal.Reads as above-refusal-reads
-use Rattle.hevc_rules.proofs.checks.parameter_refusal.Reads as parameter-refusal-reads
+use Rattle.hevc_checks.proofs.checks.above_refusal.Reads as above-refusal-reads
+use Rattle.hevc_checks.proofs.checks.parameter_refusal.Reads as parameter-refusal-reads
 
 -- src/entries.rt:23:9
 parameter-refusal-requires : tie.Need-parameter-refusal-requires

@@ -7,7 +7,7 @@ use Rattle.hevc_packer.proofs.entries.pack_scale.Statement.{statement}
 use Rattle.hevc_packer.proofs.entries.pack_scale.Tie as tie
 use Rattle.hevc_packer.proofs.entries.pack_scale.Reads as reads
 use Rattle.hevc_packer.proofs.entries.pack_scale.Lts as lts
-use Rattle.hevc_rules.proofs.checks.above_refusal.Reads as above-refusal-reads
+use Rattle.hevc_checks.proofs.checks.above_refusal.Reads as above-refusal-reads
 use Rattle.hevc_scale.proofs.entries.component_refusal.Reads as component-refusal-reads
 use Rattle.hevc_scale.proofs.entries.read_scale_bins.Reads as read-scale-bins-reads
 use Rattle.packer.proofs.list.pack_from.Reads as pack-from-reads

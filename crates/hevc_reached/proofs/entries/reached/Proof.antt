@@ -8,7 +8,7 @@ use borrow.Author.Needs.{needs}
 use Rattle.bins.specs.Interval.{Goes, settled}
 use Rattle.hevc_residual.specs.Residual.{residual}
 use Rattle.hevc_elements.specs.Agree.{from}
-use Rattle.hevc_reader.specs.EntriesAgree.{payloadChecks}
+use Rattle.hevc_residual.specs.Answers.{payloadChecks}
 use Rattle.hevc_reader.specs.EntriesLaws.{checks-passed}
 use Rattle.hevc_reached.specs.ReadingLaws.{reached-no, reached-end}
 use Rattle.hevc_reached.proofs.entries.reached.Statement.{statement}

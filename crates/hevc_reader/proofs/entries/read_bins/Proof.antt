@@ -7,8 +7,8 @@ use lib.ListN.{length, replicate}
 use Rattle.bins.specs.Tags.{contextCount}
 use Rattle.bins.specs.declared.state.Interval.{Interval}
 use Rattle.hevc_residual.specs.Wanted.{area}
-use Rattle.hevc_rules.specs.ChecksAgree.{binsChecks}
-use Rattle.hevc_rules.specs.ChecksLaws.{zeros-packed}
+use Rattle.hevc_checks.specs.ChecksAgree.{binsChecks}
+use Rattle.hevc_checks.specs.ChecksLaws.{zeros-packed}
 use Rattle.hevc_reader.specs.EntriesLaws.{bins-no, bins-passed, bins-refused, bins-over, bins-got, blocked-number}
 use borrow.Author.Needs.{needs}
 use Rattle.hevc_reader.proofs.entries.read_bins.Statement.{statement}

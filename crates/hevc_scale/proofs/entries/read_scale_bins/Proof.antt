@@ -6,7 +6,7 @@ use mathlib.Core.List.{List}
 use lib.ListN.{replicate}
 use Rattle.bins.specs.Tags.{contextCount}
 use Rattle.bins.specs.declared.state.Interval.{Interval}
-use Rattle.hevc_rules.specs.ChecksLaws.{zeros-packed}
+use Rattle.hevc_checks.specs.ChecksLaws.{zeros-packed}
 use Rattle.hevc_scale.specs.EntriesLaws.{component-passed, bins-no, bins-refused, bins-got, bins-over, scaled-number}
 use borrow.Author.Needs.{needs}
 use Rattle.hevc_scale.proofs.entries.read_scale_bins.Statement.{statement}

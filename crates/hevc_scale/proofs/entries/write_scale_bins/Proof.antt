@@ -3,7 +3,7 @@ use mathlib.Core.Path.{sym, ap, _∙_}
 use lib.IntN.{natAbs}
 use mir.Facts.{toZ-ofZ}
 use Rattle.hevc_residual.specs.Wanted.{negative}
-use Rattle.hevc_writer.specs.declared.entries.Written.the-variants as listed
+use Rattle.hevc_residual.specs.declared.answers.Written.the-variants as listed
 use Rattle.hevc_scale.specs.WriteAgree.{valueOf}
 use Rattle.hevc_scale.specs.Demand3.{promised}
 use Rattle.hevc_scale.specs.EntriesLaws.{component-passed}

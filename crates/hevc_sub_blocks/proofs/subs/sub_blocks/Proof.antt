@@ -11,7 +11,7 @@ use Rattle.hevc_sub_blocks.specs.WalkLaws.{Walking, walk-ends}
 use Rattle.hevc_rules.specs.WalkCode.{last-few, last-in-few, only-last, column-few, row-few}
 use Rattle.hevc_sub_blocks.specs.WalkCode.{as-long, code-begins, code-refused, code-on}
 use Rattle.hevc_sub_blocks.specs.SmallLaws.{zeros-long}
-use Rattle.hevc_levels.specs.StoredAgree.{Keeps}
+use Rattle.hevc_stored.specs.StoredAgree.{Keeps}
 use Rattle.hevc_levels.specs.StoredLaws.{keeps-none}
 use Rattle.hevc_subblock.specs.CarriedKeeps.{keeps-carried}
 use Rattle.hevc_sub_blocks.proofs.subs.sub_blocks.Statement.{statement}

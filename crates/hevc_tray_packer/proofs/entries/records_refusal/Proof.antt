@@ -10,7 +10,7 @@ use Rattle.hevc_tray_packer.proofs.entries.records_refusal.Statement.{s
 use Rattle.hevc_tray_packer.proofs.entries.records_refusal.Tie as tie
 use Rattle.hevc_tray_packer.proofs.entries.records_refusal.Reads as reads
 use Rattle.hevc_tray_packer.proofs.entries.records_refusal.Lts as lts
-use Rattle.hevc_rules.proofs.checks.parameter_refusal.Reads as parameter-refusal-reads
+use Rattle.hevc_checks.proofs.checks.parameter_refusal.Reads as parameter-refusal-reads
 use Rattle.hevc_tray_reader.proofs.rows.params_of.Reads as params-of-reads
 
 abbrev Inv-loop : tie.InvT-loop

@@ -6,7 +6,7 @@ use Rattle.hevc_tray_packer.proofs.entries.tray_checks.Statement.{state
 use Rattle.hevc_tray_packer.proofs.entries.tray_checks.Tie as tie
 use Rattle.hevc_tray_packer.proofs.entries.tray_checks.Reads as reads
 use Rattle.hevc_tray_packer.proofs.entries.tray_checks.Lts as lts
-use Rattle.hevc_rules.proofs.checks.above_refusal.Reads as above-refusal-reads
+use Rattle.hevc_checks.proofs.checks.above_refusal.Reads as above-refusal-reads
 use Rattle.hevc_tray_packer.proofs.entries.records_refusal.Reads as records-refusal-reads
 use Rattle.hevc_tray_reader.proofs.rows.rows_refusal.Reads as rows-refusal-reads
 

@@ -3,7 +3,7 @@ use mathlib.Core.Path.{sym, ap, _∙_}
 use lib.ListN.{length, take}
 use borrow.Author.Needs.{needs}
 use borrow.Author.Tests.{not-true, not-false}
-use Rattle.hevc_writer.specs.declared.entries.Written.the-variants as listed
+use Rattle.hevc_residual.specs.declared.answers.Written.the-variants as listed
 use Rattle.hevc_writer.specs.Demand3.{promised}
 use Rattle.hevc_writer.specs.EntriesPuts.{refused-first, accepts, front-long, statistics, refused-second, no-room, all-written}
 use Rattle.hevc_writer.proofs.entries.write_bins.Statement.{statement}

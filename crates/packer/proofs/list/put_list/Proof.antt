@@ -6,8 +6,8 @@ use Rattle.packer.proofs.list.put_list.Statement.{statement}
 use Rattle.packer.proofs.list.put_list.Tie as tie
 use Rattle.packer.proofs.list.put_list.Reads as reads
 use Rattle.packer.proofs.list.put_list.Lts as lts
-use Rattle.packer_steps.proofs.coder.flush.Reads as flush-reads
-use Rattle.packer_steps.proofs.coder.put_out.Reads as put-out-reads
+use Rattle.packer_bytes.proofs.bytes.flush.Reads as flush-reads
+use Rattle.packer_bytes.proofs.bytes.put_out.Reads as put-out-reads
 use Rattle.packer.proofs.list.entry_number.Reads as entry-number-reads
 use Rattle.packer.proofs.list.put_entry.Reads as put-entry-reads
 

@@ -1,7 +1,7 @@
 -- `same_block` meets its contract. Assumes nothing.
 use mathlib.Core.Path.{ap, sym, _∙_}
 use borrow.Author.Needs.{needs}
-use Rattle.hevc_reader.specs.declared.entries.Read.the-variants as read
+use Rattle.hevc_residual.specs.declared.answers.Read.the-variants as read
 use Rattle.same_answers.specs.Alike.{sameAnswer}
 use Rattle.same_answers.proofs.alike.same_block.Statement.{statement}
 use Rattle.same_answers.proofs.alike.same_block.Tie as tie

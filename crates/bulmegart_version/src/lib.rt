@@ -1,0 +1,2 @@
+// Which version the archive is of.
+pub mod version; // version.rt: the one number

@@ -1,0 +1,20 @@
+-- `read_came` meets its contract. Assumes nothing.
+use Rattle.hevc_summary.specs.ReadLaws.{read-came-got, read-came-is}
+use borrow.Author.Needs.{needs}
+use Rattle.hevc_kept_checks.proofs.checks.read_came.Statement.{statement}
+use Rattle.hevc_kept_checks.proofs.checks.read_came.Tie as tie
+
+enum-told : tie.Need-enum-told
+enum-told c = search needs
+
+enum-known-r : tie.Need-enum-known-r
+enum-known-r c = search needs
+
+returns : tie.Need-returns
+returns c = read-came-got (c .before .before .args .r) _ _ (c .enum-told .given .1)
+
+returns-2 : tie.Need-returns-2
+returns-2 c = read-came-is (c .before .before .before .args .r) _ (c .before .r .given .1)
+
+pub read-came-spec : {M : Type 1} → statement M
+read-came-spec = tie.close (tie.spec enum-told enum-known-r returns returns-2)

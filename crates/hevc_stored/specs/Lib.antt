@@ -1,0 +1,2 @@
+pub mod StoredAgree
+pub mod SignLaws
