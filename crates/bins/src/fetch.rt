@@ -2,7 +2,7 @@
 use crate::places::BitPlace;
 
 // Bits as a number, the place behind them, and how many of them lie past the end: so many ones were supplied, and not read.
-#[derive(Drop)]
+#[derive(Clone, Copy)]
 pub struct Drawn {
     pub bits: u32,
     pub next: BitPlace,

@@ -3,18 +3,18 @@ ghost use Rattle.std.specs.Prelude.{◌≡◌, ◌+◌, ◌*◌, ◌/◌, ◌≤
 ghost use Rattle.bins.specs.Bits.{ends};
 
 // Bits are counted from 0, the high bit of byte 0 first.
-#[derive(Drop)]
+#[derive(Clone, Copy)]
 pub struct BitPlace(pub usize);
 
-#[derive(Drop)]
+#[derive(Clone, Copy)]
 pub struct BytePlace(pub usize);
 
 // A place in a bin list counts its bytes; an entry is two.
-#[derive(Drop)]
+#[derive(Clone, Copy)]
 pub struct ListPlace(pub usize);
 
 // Where a reader stands in whatever it reads, in that one's unit. The steps, which know what is read, convert.
-#[derive(Drop)]
+#[derive(Clone, Copy)]
 pub struct SourcePlace(pub usize);
 
 pub fn in_payload(at: SourcePlace) -> BitPlace

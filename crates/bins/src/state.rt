@@ -5,7 +5,7 @@ ghost use Rattle.bins.specs.Sources.{refusal_of};
 use crate::places::{BitPlace, SourcePlace};
 
 // Between calls: range, offset, position, an ended mark, and how many bits past the end were supplied since the first start, to 65,535.
-#[derive(Drop)]
+#[derive(Clone, Copy)]
 pub struct Engine {
     pub range: u32,
     pub offset: u32,
@@ -15,7 +15,7 @@ pub struct Engine {
 }
 
 // The engine's state while a block is read: what it is in between is no state to hand out. From a bin list only the place moves.
-#[derive(Drop)]
+#[derive(Clone, Copy)]
 pub struct Interval {
     pub range: u32,
     pub offset: u32,
@@ -23,21 +23,21 @@ pub struct Interval {
 }
 
 // Bins as a number, and the state behind them.
-#[derive(Drop)]
+#[derive(Clone, Copy)]
 pub struct Taken {
     pub value: u32,
     pub next: Interval,
 }
 
 // A refusal: its number, and the state at which it arose.
-#[derive(Drop)]
+#[derive(Clone, Copy)]
 pub struct Refusal {
     pub number: u32,
     pub at: Interval,
 }
 
 // Bins with the state behind them, or a refusal by its number and the state at which it arose: as two fields they lie where the bins do, and a step stays small.
-#[derive(Drop)]
+#[derive(Clone, Copy)]
 pub enum Step {
     Bin(u32, Interval),
     Refused(u32, Interval),

@@ -2,7 +2,7 @@
 use book_lines::pending::Pending;
 
 // The line that is being read, and how much of the room is written.
-#[derive(Drop)]
+#[derive(Clone, Copy)]
 pub struct Answering {
     pub line: Pending,
     pub out: usize,

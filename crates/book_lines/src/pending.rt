@@ -6,7 +6,7 @@ ghost use Rattle.book_lines.specs.Steps.{grown, first_line};
 pub const MOST_HELD: usize = 8469;
 
 // The line's number, from 1, and how many of its bytes are held.
-#[derive(Drop)]
+#[derive(Clone, Copy)]
 pub struct Pending {
     pub number: u64,
     pub held: usize,

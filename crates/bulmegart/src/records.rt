@@ -11,7 +11,7 @@ use hevc_residual::params::{Params, Rdpcm};
 
 // The engine's state between calls.
 #[repr(C)]
-#[derive(Drop)]
+#[derive(Clone, Copy)]
 pub struct EngineState {
     pub range: u32,
     pub offset: u32,
@@ -22,7 +22,7 @@ pub struct EngineState {
 
 // What the slice and the coding unit have settled before the block.
 #[repr(C)]
-#[derive(Drop)]
+#[derive(Clone, Copy)]
 pub struct BlockParams {
     pub log2: u32,
     pub scan: u32,

@@ -8,7 +8,7 @@ use hevc_residual::answers::{Found, Read, ReadList};
 
 // What document 01 gives of a block beside its levels; zeros after a refusal.
 #[repr(C)]
-#[derive(Drop)]
+#[derive(Clone, Copy)]
 pub struct BlockFound {
     pub skip: u8,
     pub rdpcm: u8,
@@ -18,7 +18,7 @@ pub struct BlockFound {
 }
 
 #[repr(C)]
-#[derive(Drop)]
+#[derive(Clone, Copy)]
 pub struct BlockAnswer {
     pub number: u32,
     pub found: BlockFound,
@@ -26,7 +26,7 @@ pub struct BlockAnswer {
 }
 
 #[repr(C)]
-#[derive(Drop)]
+#[derive(Clone, Copy)]
 pub struct ListAnswer {
     pub number: u32,
     pub found: BlockFound,

@@ -11,7 +11,7 @@ use hevc_residual::params::Rdpcm;
 
 // The list's length; 0 after a refusal.
 #[repr(C)]
-#[derive(Drop)]
+#[derive(Clone, Copy)]
 pub struct WriteAnswer {
     pub number: u32,
     pub length: usize,

@@ -10,7 +10,7 @@ use book_lines::pending::Pending;
 // The line that is being read, as a call left it: its number, from 1, and how many of its bytes the lent buffer holds; and how many bytes of the
 // room the call wrote.
 #[repr(C)]
-#[derive(Drop)]
+#[derive(Clone, Copy)]
 pub struct BookAnswer {
     pub number: u32,
     pub line: u64,

@@ -10,14 +10,14 @@ use cabac::answers::State;
 use cabac_engine::engine::{restart, start};
 
 #[repr(C)]
-#[derive(Drop)]
+#[derive(Clone, Copy)]
 pub struct StateAnswer {
     pub number: u32,
     pub state: EngineState,
 }
 
 #[repr(C)]
-#[derive(Drop)]
+#[derive(Clone, Copy)]
 pub struct DecisionAnswer {
     pub number: u32,
     pub bin: u8,
@@ -26,7 +26,7 @@ pub struct DecisionAnswer {
 }
 
 #[repr(C)]
-#[derive(Drop)]
+#[derive(Clone, Copy)]
 pub struct BinsAnswer {
     pub number: u32,
     pub value: u32,
@@ -35,7 +35,7 @@ pub struct BinsAnswer {
 
 // The rest of the payload: its first byte's place, and its length.
 #[repr(C)]
-#[derive(Drop)]
+#[derive(Clone, Copy)]
 pub struct RestAnswer {
     pub number: u32,
     pub first: usize,

@@ -15,7 +15,7 @@ use h264_writer::entries::{Written, write_bins};
 
 // The greatest magnitude is 0 after a refusal, and the state the one handed in.
 #[repr(C)]
-#[derive(Drop)]
+#[derive(Clone, Copy)]
 pub struct H264BlockAnswer {
     pub number: u32,
     pub greatest: u32,
@@ -23,7 +23,7 @@ pub struct H264BlockAnswer {
 }
 
 #[repr(C)]
-#[derive(Drop)]
+#[derive(Clone, Copy)]
 pub struct H264ListAnswer {
     pub number: u32,
     pub greatest: u32,

@@ -9,7 +9,7 @@ use hevc_tray_packer::entries::pack_tray;
 
 // How many lists were read, which the number 13 is about the one behind; the length is 0 after a refusal.
 #[repr(C)]
-#[derive(Drop)]
+#[derive(Clone, Copy)]
 pub struct PackTrayAnswer {
     pub number: u32,
     pub done: usize,

@@ -9,7 +9,7 @@ use hevc_residual::params::Params;
 
 // A plain record, all zeros after a refusal.
 #[repr(C)]
-#[derive(Drop)]
+#[derive(Clone, Copy)]
 pub struct ParamsAnswer {
     pub number: u32,
     pub params: BlockParams,

@@ -8,7 +8,7 @@ use press_frame::press::Pressed;
 
 // The frame's length in the room; 0 after a refusal.
 #[repr(C)]
-#[derive(Drop)]
+#[derive(Clone, Copy)]
 pub struct PressAnswer {
     pub number: u32,
     pub length: usize,

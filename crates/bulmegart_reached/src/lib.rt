@@ -8,7 +8,7 @@ use hevc_reached::entries::reached;
 
 // The state reached, and the bits past the end that the call drew. Where a check refuses the call: the state handed in, and 0.
 #[repr(C)]
-#[derive(Drop)]
+#[derive(Clone, Copy)]
 pub struct ReachedAnswer {
     pub state: EngineState,
     pub past: u32,

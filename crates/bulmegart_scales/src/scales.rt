@@ -8,7 +8,7 @@ use bulmegart::records::{EngineState, engine_of, state_handed, state_of};
 use hevc_scale::entries::{Read, read_scale};
 
 #[repr(C)]
-#[derive(Drop)]
+#[derive(Clone, Copy)]
 pub struct ScaleAnswer {
     pub number: u32,
     pub scale: i32,
@@ -16,7 +16,7 @@ pub struct ScaleAnswer {
 }
 
 #[repr(C)]
-#[derive(Drop)]
+#[derive(Clone, Copy)]
 pub struct ScaleListAnswer {
     pub number: u32,
     pub scale: i32,

@@ -14,14 +14,14 @@ use hevc_summary::kept::{Form, Whole};
 
 // A reader's answer, and the record of the whole behind it.
 #[repr(C)]
-#[derive(Drop)]
+#[derive(Clone, Copy)]
 pub struct KeptBlockAnswer {
     pub block: BlockAnswer,
     pub whole: Whole,
 }
 
 #[repr(C)]
-#[derive(Drop)]
+#[derive(Clone, Copy)]
 pub struct KeptListAnswer {
     pub list: ListAnswer,
     pub whole: Whole,

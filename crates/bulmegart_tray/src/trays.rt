@@ -8,7 +8,7 @@ use hevc_tray::entries::Tray;
 use hevc_tray_reader::entries::read_tray;
 
 #[repr(C)]
-#[derive(Drop)]
+#[derive(Clone, Copy)]
 pub struct TrayAnswer {
     pub number: u32,
     pub done: usize,

@@ -7,20 +7,20 @@ use cabac::answers::Decision;
 use cabac_bins::decode;
 
 // One context: probability state and most probable bin in a byte.
-#[derive(Drop)]
+#[derive(Clone, Copy)]
 pub struct CtxModel {
     pub packed: u8,
 }
 
 // A bin with the state behind it, or the number of the refusal.
-#[derive(Drop)]
+#[derive(Clone, Copy)]
 pub enum Bit {
     Read(bool, Engine),
     Refused(u32),
 }
 
 // What is answered, and what is stored.
-#[derive(Drop)]
+#[derive(Clone, Copy)]
 pub struct Turn {
     pub packed: u8,
     pub bit: Bit,

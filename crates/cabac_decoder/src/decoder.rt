@@ -12,7 +12,7 @@ use cabac_bypass::bypass;
 use cabac_context::context;
 use cabac_context::context::{Bit, CtxModel};
 
-#[derive(Drop)]
+#[derive(Clone, Copy)]
 pub struct Decoder<'a> {
     pub payload: &'a [u8],
     pub state: Engine,

@@ -55,7 +55,7 @@ fn most(k: usize, places: u32) -> u32 {
     }
 }
 
-#[derive(Drop)]
+#[derive(Clone, Copy)]
 pub enum Word {
     Is(u32),
     Missing,
@@ -127,7 +127,7 @@ pub fn row(s: &[u8], out: &mut [u32; 14]) -> usize {
     0
 }
 
-#[derive(Drop)]
+#[derive(Clone, Copy)]
 pub enum Handed {
     Is(Engine),
     // the start on the payload refused
@@ -162,7 +162,7 @@ pub fn state(s: &[u8], bytes: &[u8]) -> Handed {
     Handed::Missing
 }
 
-#[derive(Drop)]
+#[derive(Clone, Copy)]
 pub enum Chosen {
     Are(Params),
     Missing,
@@ -228,7 +228,7 @@ pub fn lent(s: &[u8], out: &mut [u8]) -> bool {
     }
 }
 
-#[derive(Drop)]
+#[derive(Clone, Copy)]
 pub enum RdpcmGiven {
     Is(Rdpcm),
     Missing,
@@ -247,7 +247,7 @@ pub fn direction(s: &[u8]) -> RdpcmGiven {
     }
 }
 
-#[derive(Drop)]
+#[derive(Clone, Copy)]
 pub enum Signed {
     Is(i32),
     Missing,

@@ -167,7 +167,7 @@ fn taken(tally: &mut [u32; 6], s: &[u8], bytes: &mut [u8; LIST]) {
 }
 
 // What goes on from line to line. Behind the front of a line that is too long its tail is left out.
-#[derive(Drop)]
+#[derive(Clone, Copy)]
 struct Held {
     window: Window,
     more: bool,

@@ -47,7 +47,7 @@ fn step(contexts: &mut [u8; CONTEXTS], high: u8, low: u8, bytes: &[u8], e: Engin
     }
 }
 
-#[derive(Drop)]
+#[derive(Clone, Copy)]
 pub struct Ran {
     pub bins: usize,
     pub next: Engine,

@@ -102,7 +102,7 @@ fn pair(a: &[u8], b: &[u8]) {
 }
 
 // What goes on from line to line: whether a first frame waits, and how many bytes it has.
-#[derive(Drop)]
+#[derive(Clone, Copy)]
 struct Held {
     window: Window,
     number: u64,

@@ -2,7 +2,7 @@
 
 // What is not by place or by number.
 #[repr(C)]
-#[derive(Drop)]
+#[derive(Clone, Copy)]
 pub struct Totals {
     pub log2: u32, // the blocks are n by n, n = 2^log2
     pub accepted: u32, // blocks
@@ -11,7 +11,7 @@ pub struct Totals {
 
 // What adding answers: 0 with the new totals, or the number of the refusal with the totals handed in.
 #[repr(C)]
-#[derive(Drop)]
+#[derive(Clone, Copy)]
 pub struct Added {
     pub number: u32,
     pub totals: Totals,

@@ -2,7 +2,7 @@
 
 // What stands at a place, or the number of the refusal with zeros.
 #[repr(C)]
-#[derive(Drop)]
+#[derive(Clone, Copy)]
 pub struct PlaceFigures {
     pub number: u32,
     pub blocks: u32, // that have a non-zero level there
@@ -12,7 +12,7 @@ pub struct PlaceFigures {
 
 // The tally of a number, or the number of the refusal with 0.
 #[repr(C)]
-#[derive(Drop)]
+#[derive(Clone, Copy)]
 pub struct TallyFigure {
     pub number: u32,
     pub count: u32,

@@ -7,7 +7,7 @@ use cabac_checks::checks::payload_refusal;
 use hevc_checks::checks::parameter_refusal;
 
 // The greatest magnitude and the bits past the end, or the number of the refusal.
-#[derive(Drop)]
+#[derive(Clone, Copy)]
 pub enum Verdict {
     Ok(u32, u32),
     No(u32),

@@ -13,7 +13,7 @@ use h264_contexts::contexts::init_pairs;
 use h264_reader::entries::{Read, residual_block};
 
 // The greatest magnitude and the state behind the block, or the number of the refusal; or these are not the bytes of a frame.
-#[derive(Drop)]
+#[derive(Clone, Copy)]
 pub enum Shown {
     Block(u32, Engine),
     Refused(u32),

@@ -11,14 +11,14 @@ use cabac_checks::checks::{payload_refusal, state_refusal};
 use cabac_state::engine::{open, settle};
 
 // The greatest magnitude and the state behind a block, or the number of the refusal.
-#[derive(Drop)]
+#[derive(Clone, Copy)]
 pub enum Read {
     Block(u32, Engine),
     Refused(u32),
 }
 
 // The greatest magnitude, or the number of the refusal.
-#[derive(Drop)]
+#[derive(Clone, Copy)]
 pub enum ReadList {
     Block(u32),
     Refused(u32),

@@ -9,7 +9,7 @@ use h264_pen::levels::put_block;
 use pen::room::Pen;
 
 // The length of the list, in bytes, or the number of the refusal.
-#[derive(Drop)]
+#[derive(Clone, Copy)]
 pub enum Written {
     List(usize),
     Refused(u32),

@@ -18,7 +18,7 @@ use hevc_subblock::coeffs::Carried;
 use hevc_walk::walk::sub_blocks;
 use level_sizes::sizes::greatest;
 
-#[derive(Drop)]
+#[derive(Clone, Copy)]
 pub enum Blocked {
     Got(Found, Interval),
     Refused(Refusal),

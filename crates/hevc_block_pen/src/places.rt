@@ -13,7 +13,7 @@ use hevc_places::places::{Places, SigNumbers, appended, inferred, number_at};
 use hevc_wanted::sub::is_level;
 use pen::room::{Pen, put_bin};
 
-#[derive(Drop)]
+#[derive(Clone, Copy)]
 pub struct PutPlaces {
     pub places: Places,
     pub pen: Pen,

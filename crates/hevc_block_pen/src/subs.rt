@@ -46,7 +46,7 @@ fn coded_now(middle: bool, flag: bool) -> bool
 }
 
 // What goes on behind a sub-block, and the pen.
-#[derive(Drop)]
+#[derive(Clone, Copy)]
 pub struct PutSub {
     pub carry: Carry,
     pub pen: Pen,

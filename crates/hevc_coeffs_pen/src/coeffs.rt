@@ -29,7 +29,7 @@ fn put_align_if(room: &mut [u8], pen: Pen, due: bool) -> Pen
 }
 
 // greater1Ctx behind the sub-block, and the pen.
-#[derive(Drop)]
+#[derive(Clone, Copy)]
 pub struct PutCoeffs {
     pub carry: u32,
     pub pen: Pen,

@@ -10,7 +10,7 @@ use hevc_payload_checks::checks::payload_checks;
 use hevc_reached::entries::reached;
 use hevc_residual::params::Params;
 
-#[derive(Drop)]
+#[derive(Clone, Copy)]
 pub enum Judgement {
     // A check refuses the first call by this number: no bit behind the start is drawn, and the theorem does not speak.
     Unread(u32),

@@ -15,7 +15,7 @@ use hevc_head_rules::head::{
 };
 use hevc_residual::params::Params;
 
-#[derive(Drop)]
+#[derive(Clone, Copy)]
 pub enum Headed {
     Got(Head, Interval),
     Refused(Refusal),

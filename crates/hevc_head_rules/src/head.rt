@@ -7,7 +7,7 @@ ghost use Rattle.hevc_head_rules.specs.HeadOf.{head_of, placed_at};
 use hevc_residual::params::{Params, Rdpcm};
 
 // What the block has settled before its sub-blocks; x and y are the last significant position.
-#[derive(Drop)]
+#[derive(Clone, Copy)]
 pub struct Head {
     pub skip: bool,
     pub rdpcm: Rdpcm,

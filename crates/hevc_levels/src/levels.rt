@@ -20,7 +20,7 @@ use hevc_residual::params::Params;
 use hevc_rules::levels::Going;
 use hevc_stored::stored::{Stored, is_free, is_negative, store, stored_behind};
 
-#[derive(Drop)]
+#[derive(Clone, Copy)]
 pub enum Leveled {
     Got(Going, Stored, Interval),
     Refused(Refusal),

@@ -16,7 +16,7 @@ use level_sizes::sizes::magnitude;
 use pen::room::{Pen, put_bin};
 
 // The bins put as a mask, the first in the lowest bit, and greater1Ctx behind them.
-#[derive(Drop)]
+#[derive(Clone, Copy)]
 pub struct PutGreater {
     pub mask: u32,
     pub carry: u32,

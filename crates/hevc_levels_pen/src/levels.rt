@@ -14,7 +14,7 @@ use hevc_rules::levels::Going;
 use level_sizes::sizes::magnitude;
 use pen::room::Pen;
 
-#[derive(Drop)]
+#[derive(Clone, Copy)]
 pub struct PutLevel {
     pub going: Going,
     pub pen: Pen,

@@ -8,7 +8,7 @@ use hevc_residual::params::Params;
 use hevc_significance::significance::{map_word, near_word, plus};
 
 // Places of a sub-block's scan, four bits each, the first read in the lowest.
-#[derive(Drop)]
+#[derive(Clone, Copy)]
 pub struct Places {
     pub packed: u64,
     pub count: u32,
@@ -26,7 +26,7 @@ pub fn appended(s: Places, k: u32, b: u32) -> Places
 }
 
 // The contexts of a sub-block's flags: that of place 0, and of every other place base and what the word has for it, four bits a place.
-#[derive(Drop)]
+#[derive(Clone, Copy)]
 pub struct SigNumbers {
     pub word: u64,
     pub base: u32,

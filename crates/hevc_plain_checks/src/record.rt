@@ -7,7 +7,7 @@ use crate::checks::plain_refusal;
 use hevc_residual::params::Params;
 
 // A plain record, or the number of the refusal.
-#[derive(Drop)]
+#[derive(Clone, Copy)]
 pub enum Made {
     Record(Params),
     Refused(u32),

@@ -18,7 +18,7 @@ use hevc_residual::params::Params;
 use tables::decision_table;
 
 // The state reached, and how many bits past the end this call drew, up to 65,535. Where a check refuses the call, that is the state handed in, and none.
-#[derive(Drop)]
+#[derive(Clone, Copy)]
 pub struct ReachedAt {
     pub state: Engine,
     pub past: u32,

@@ -3,7 +3,7 @@ use crate::params::Rdpcm;
 use bins::state::Engine;
 
 // What document 01 gives of a block, beside its levels.
-#[derive(Drop)]
+#[derive(Clone, Copy)]
 pub struct Found {
     pub skip: bool,
     pub rdpcm: Rdpcm,
@@ -14,21 +14,21 @@ pub struct Found {
 }
 
 // A block with the state behind it, or the number of the refusal.
-#[derive(Drop)]
+#[derive(Clone, Copy)]
 pub enum Read {
     Block(Found, Engine),
     Refused(u32),
 }
 
 // A block, or the number of the refusal.
-#[derive(Drop)]
+#[derive(Clone, Copy)]
 pub enum ReadList {
     Block(Found),
     Refused(u32),
 }
 
 // A list by its length, or the number of the refusal.
-#[derive(Drop)]
+#[derive(Clone, Copy)]
 pub enum Written {
     List(usize),
     Refused(u32),

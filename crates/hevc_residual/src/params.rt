@@ -3,7 +3,7 @@ ghost use Rattle.std.specs.Prelude.{◌≡◌};
 ghost use Rattle.hevc_residual.specs.AllOff.{all_off};
 
 // What the slice and the coding unit have settled before the block; numbers out of document 01's limits are answered by 4.
-#[derive(Drop)]
+#[derive(Clone, Copy)]
 pub struct Params {
     pub log2: u32, // the block is n by n, n = 2^log2
     pub luma: bool, // cIdx is 0
@@ -44,7 +44,7 @@ pub fn all_off(log2: u32, luma: bool, scan: u32, depth: u32, hiding: bool) -> Pa
 }
 
 // Explicit RDPCM: an enum, since a number above 2 would be no choice of the syntax.
-#[derive(Drop)]
+#[derive(Clone, Copy)]
 pub enum Rdpcm {
     None, // explicit_rdpcm_flag is 0, or not coded
     Horizontal, // explicit_rdpcm_dir_flag is 0

@@ -1,7 +1,7 @@
 // What goes from a level of a sub-block to the next, and where a level goes.
 
 // What goes from a level of the sub-block to the next.
-#[derive(Drop)]
+#[derive(Clone, Copy)]
 pub struct Going {
     pub places: u64, // the places left, four bits each, the next in the lowest
     pub count: u32, // how many those are
@@ -17,14 +17,14 @@ pub struct Going {
 }
 
 // A level's base, and whether a remainder follows.
-#[derive(Drop)]
+#[derive(Clone, Copy)]
 pub struct Base {
     pub level: u32,
     pub more: bool,
 }
 
 // Where a level goes: its column, and its place in the block.
-#[derive(Drop)]
+#[derive(Clone, Copy)]
 pub struct Cell {
     pub column: u32,
     pub at: usize,

@@ -14,14 +14,14 @@ use hevc_scale_syntax::syntax::Scaled;
 use tables::decision_table;
 
 // A scale with the state behind it, or the number of the refusal.
-#[derive(Drop)]
+#[derive(Clone, Copy)]
 pub enum Read {
     Scale(i32, Engine),
     Refused(u32),
 }
 
 // A scale, or the number of the refusal.
-#[derive(Drop)]
+#[derive(Clone, Copy)]
 pub enum ReadList {
     Scale(i32),
     Refused(u32),

@@ -12,7 +12,7 @@ use bins::tags::CONTEXTS;
 use hevc_elements::shapes::{context_bin, prefix};
 
 // A scale with the interval behind it, or the number of the refusal.
-#[derive(Drop)]
+#[derive(Clone, Copy)]
 pub enum Scaled {
     Got(i32, Interval),
     Refused(Refusal),

@@ -12,7 +12,7 @@ use hevc_residual::params::Params;
 use level_sizes::sizes::{greatest, larger};
 
 // What is told of the levels stored so far, so that the block need not be looked through at its end.
-#[derive(Drop)]
+#[derive(Clone, Copy)]
 pub struct Stored {
     pub greatest: u32, // the greatest magnitude, while clean
     pub far: u32, // the furthest place that was written: its row is the row extent
@@ -67,7 +67,7 @@ pub fn stored_behind(k: Stored, free: bool, m: u32, at: u32) -> Stored
 }
 
 // What the levels tell: the row extent and the greatest magnitude.
-#[derive(Drop)]
+#[derive(Clone, Copy)]
 pub struct Told {
     pub row: u32,
     pub greatest: u32,

@@ -31,7 +31,7 @@ use hevc_rules::coeffs::Carry;
 use hevc_rules::levels::Going;
 use hevc_stored::stored::Stored;
 
-#[derive(Drop)]
+#[derive(Clone, Copy)]
 pub enum Carried {
     Got(Carry, Stored, Interval),
     Refused(Refusal),

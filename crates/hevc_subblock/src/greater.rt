@@ -14,13 +14,13 @@ use hevc_elements::shapes::context_bin;
 use hevc_level_rules::greater::carry_next;
 
 // The bins as a mask, the first in the lowest bit, and greater1Ctx behind them.
-#[derive(Drop)]
+#[derive(Clone, Copy)]
 pub struct Greater {
     pub mask: u32,
     pub carry: u32,
 }
 
-#[derive(Drop)]
+#[derive(Clone, Copy)]
 pub enum Greaters {
     Got(Greater, Interval),
     Refused(Refusal),

@@ -14,7 +14,7 @@ use bins::tags::CONTEXTS;
 use hevc_elements::shapes::context_bin;
 use hevc_places::places::{Places, SigNumbers, appended, inferred, number_at};
 
-#[derive(Drop)]
+#[derive(Clone, Copy)]
 pub enum Placed {
     Got(Places, Interval),
     Refused(Refusal),

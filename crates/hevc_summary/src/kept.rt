@@ -2,7 +2,7 @@
 
 // What a kept block is made for: its size and its range.
 #[repr(C)]
-#[derive(Drop)]
+#[derive(Clone, Copy)]
 pub struct Form {
     pub log2: u32, // the block is n by n, n = 2^log2
     pub bits: u32, // T: levels are -2^T to 2^T - 1
@@ -10,7 +10,7 @@ pub struct Form {
 
 // The record of the whole.
 #[repr(C)]
-#[derive(Drop)]
+#[derive(Clone, Copy)]
 pub struct Whole {
     pub count: u64, // levels that are not zero
     pub sum: u64, // of magnitudes
@@ -18,7 +18,7 @@ pub struct Whole {
 }
 
 // The record of a sub-block.
-#[derive(Drop)]
+#[derive(Clone, Copy)]
 pub struct Tally {
     pub count: u32,
     pub sum: u64,
@@ -26,7 +26,7 @@ pub struct Tally {
 
 // What a change answers: 0 with the new record of the whole, or the number of the refusal with the record handed in.
 #[repr(C)]
-#[derive(Drop)]
+#[derive(Clone, Copy)]
 pub struct Changed {
     pub number: u32,
     pub whole: Whole,

@@ -4,13 +4,13 @@ use crate::kept::Whole;
 use hevc_residual::answers::{Read, ReadList};
 
 // The reader's answer, and the record of the whole behind it.
-#[derive(Drop)]
+#[derive(Clone, Copy)]
 pub struct ReadInto {
     pub read: Read,
     pub whole: Whole,
 }
 
-#[derive(Drop)]
+#[derive(Clone, Copy)]
 pub struct ListInto {
     pub read: ReadList,
     pub whole: Whole,

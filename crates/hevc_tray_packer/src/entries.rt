@@ -13,7 +13,7 @@ use hevc_tray_reader::rows::{params_of, rows_refusal};
 use packer::list::{Packing, pack_from};
 
 // The payload or the refusal, and how many lists were read before it.
-#[derive(Drop)]
+#[derive(Clone, Copy)]
 pub struct TrayPacking {
     pub done: usize,
     pub packing: Packing,

@@ -19,14 +19,14 @@ use hevc_tray_reader::rows::params_of;
 use tables::decision_table;
 
 // The place behind a block's list, or none.
-#[derive(Drop)]
+#[derive(Clone, Copy)]
 pub enum Listed {
     To(usize),
     Refused,
 }
 
 // How many lists were read, and whether they are all that there is.
-#[derive(Drop)]
+#[derive(Clone, Copy)]
 pub struct Lists {
     pub done: usize,
     pub whole: bool,

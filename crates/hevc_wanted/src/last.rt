@@ -13,7 +13,7 @@ use hevc_residual::params::Params;
 use hevc_sizes::sizes::grid;
 
 // A place of the block: column and row.
-#[derive(Drop)]
+#[derive(Clone, Copy)]
 pub struct Place {
     pub x: u32,
     pub y: u32,

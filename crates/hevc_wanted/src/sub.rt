@@ -15,7 +15,7 @@ use hevc_residual::params::Params;
 use level_sizes::sizes::magnitude;
 
 // A sub-block by its column and row.
-#[derive(Drop)]
+#[derive(Clone, Copy)]
 pub struct Corner {
     pub xs: u32,
     pub ys: u32,

@@ -22,7 +22,7 @@ use morning_sums::feeding::{Feeding, feed, finish};
 // More pieces than any input has: nothing says that the input ends, so the loop counts down.
 const TURNS: u64 = 2251799813685248;
 
-#[derive(Drop)]
+#[derive(Clone, Copy)]
 pub struct Next {
     pub state: Feeding,
     pub more: bool,
@@ -30,7 +30,7 @@ pub struct Next {
 }
 
 // A book that was read, or not.
-#[derive(Drop)]
+#[derive(Clone, Copy)]
 pub struct Book {
     pub sizes: Sizes,
     pub lines: u64,

@@ -9,14 +9,14 @@ use figures::add::Totals;
 use figures_add::add::{add_block, add_refusal};
 
 // Of one size: the totals, and whether a block was left out since 4,096 were there.
-#[derive(Drop)]
+#[derive(Clone, Copy)]
 pub struct One {
     pub totals: Totals,
     pub full: bool,
 }
 
 // Of all four.
-#[derive(Drop)]
+#[derive(Clone, Copy)]
 pub struct Sizes {
     pub of4: One,
     pub of8: One,

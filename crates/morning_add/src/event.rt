@@ -3,7 +3,7 @@ ghost use Rattle.std.specs.Prelude.{◌≡◌, ◌≤◌, length};
 ghost use Rattle.frame.specs.Frame.{byte_of};
 
 // A block's log2 size and its total past the end (its levels are left beside it), or the number of the refusal.
-#[derive(Drop)]
+#[derive(Clone, Copy)]
 pub enum LineRead {
     Block(u32, u32),
     No(u32),

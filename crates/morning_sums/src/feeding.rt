@@ -10,7 +10,7 @@ use morning_add::adding::{Sizes, add_event};
 use morning_lines::event::read_line;
 
 // The line that is being read, and the totals of each size.
-#[derive(Drop)]
+#[derive(Clone, Copy)]
 pub struct Feeding {
     pub line: Pending,
     pub sizes: Sizes,

@@ -16,7 +16,7 @@ use packer_steps::coder::{Coder, align, bypass, decision};
 use tables::decision_table;
 
 // A payload by its length, or the number of the refusal.
-#[derive(Drop)]
+#[derive(Clone, Copy)]
 pub enum Packing {
     Payload(usize),
     Refused(u32),

@@ -5,7 +5,7 @@ ghost use Rattle.packing.specs.Pack.{widened, encoded, bypass_enc, align_enc, fa
 ghost use Rattle.packer_steps.specs.Register.{register_of, Steady};
 
 // low has so many bits below the bytes that are done, and one more for a carry; at counts the bytes.
-#[derive(Drop)]
+#[derive(Clone, Copy)]
 pub struct Coder {
     pub low: u32,
     pub range: u32,

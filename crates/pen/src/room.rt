@@ -7,7 +7,7 @@ ghost use Rattle.pen.specs.Sheet.{sheet, moved, inked, entered};
 use bins::tags::{ALIGNMENT, BYPASS};
 
 // Where the next byte goes. A pen that only counts leaves the room as it is; one that found no place for a byte is over.
-#[derive(Drop)]
+#[derive(Clone, Copy)]
 pub struct Pen {
     pub at: usize,
     pub over: bool,

@@ -16,7 +16,7 @@ use text::lines::{Line, Window, part};
 const LINE: usize = 4096;
 
 // What goes on from line to line. Behind the front of a line that is too long its tail is left out.
-#[derive(Drop)]
+#[derive(Clone, Copy)]
 struct Held {
     window: Window,
     sheet: Sheet,

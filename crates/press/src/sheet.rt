@@ -11,7 +11,7 @@ use press_tokens::tokens::{end_of, start_of};
 use text::lines::part;
 
 // What goes on from line to line.
-#[derive(Drop)]
+#[derive(Clone, Copy)]
 pub struct Sheet {
     pub line: u64, // how many lines were read
     pub first: u64, // the line at which the drawing began; 0 where none has begun

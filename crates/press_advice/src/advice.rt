@@ -15,7 +15,7 @@ use press_strokes::search::{first_far, first_off, first_taken, refusal};
 use press_strokes::strokes::stroke_at;
 
 // Where the writer's number comes from.
-#[derive(Drop)]
+#[derive(Clone, Copy)]
 pub enum Place {
     Nowhere(u32), // nothing is refused, or by a number of no place: 0, 4, 9
     Far(usize), // 8: the first level out of range, by its place row by row
@@ -23,7 +23,7 @@ pub enum Place {
 }
 
 // A level in another's place, by the place row by row.
-#[derive(Drop)]
+#[derive(Clone, Copy)]
 pub enum Change {
     To(usize, i32),
     Nothing,

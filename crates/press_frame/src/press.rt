@@ -7,7 +7,7 @@ use frame::fields::flags_refusal;
 use text_room::put;
 
 // The frame's length in the room, or the number of the refusal.
-#[derive(Drop)]
+#[derive(Clone, Copy)]
 pub enum Pressed {
     Frame(usize),
     No(u32),

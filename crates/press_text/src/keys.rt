@@ -10,14 +10,14 @@ use text_fields::fields::{Number, Octets, decimal};
 use text_octets::octets::hex_bytes;
 
 // Taken; the block stands as `show` prints it; or no, from a place of the line on, for a reason of words.rt.
-#[derive(Drop)]
+#[derive(Clone, Copy)]
 pub enum Taken {
     Yes,
     Shown,
     No(usize, u8),
 }
 
-#[derive(Drop)]
+#[derive(Clone, Copy)]
 enum Small {
     Is(u8),
     No,

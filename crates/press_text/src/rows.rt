@@ -9,13 +9,13 @@ use text::lines::part;
 use text_fields::fields::{Number, decimal};
 
 // So many levels; or not, from a place of the line on, for a reason of words.rt.
-#[derive(Drop)]
+#[derive(Clone, Copy)]
 pub enum Row {
     Has(usize),
     Bad(usize, u8),
 }
 
-#[derive(Drop)]
+#[derive(Clone, Copy)]
 enum Level {
     Is(i32),
     No,

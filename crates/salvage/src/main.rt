@@ -18,7 +18,7 @@ const REPORT: usize = 262144;
 // More pieces than any input has: nothing says that the input ends, so the loop counts down.
 const TURNS: u64 = 2251799813685248;
 
-#[derive(Drop)]
+#[derive(Clone, Copy)]
 pub struct Next {
     pub line: Pending,
     pub tally: Tally,

@@ -25,7 +25,7 @@ pub fn digits(n: u32) -> usize
 }
 
 // How cells are laid out: the width of one, and whether large levels stand in brackets, for which two of it are kept.
-#[derive(Drop)]
+#[derive(Clone, Copy)]
 pub struct Form {
     pub width: usize,
     pub brackets: bool,

@@ -49,7 +49,7 @@ fn lower_line(line: &mut [u8], n: usize) -> usize
 }
 
 // 0 where the line is copied, else the number by which it is dropped; and how many digits were turned.
-#[derive(Drop)]
+#[derive(Clone, Copy)]
 pub struct Fate {
     pub number: u32,
     pub turned: usize,

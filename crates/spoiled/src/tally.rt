@@ -1,6 +1,6 @@
 // How many lines were kept, lowered and dropped.
 
-#[derive(Drop)]
+#[derive(Clone, Copy)]
 pub struct Tally {
     pub kept: u64,
     pub lowered: u64,

@@ -12,7 +12,7 @@ use spoiled_words::tally::count_line;
 use spoiled_words::words::{put_report, put_salvaged};
 
 // The line that is being read, the tally so far, and how much of the book's and of the report's room is written.
-#[derive(Drop)]
+#[derive(Clone, Copy)]
 pub struct Salvaging {
     pub line: Pending,
     pub tally: Tally,

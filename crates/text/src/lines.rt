@@ -8,7 +8,7 @@ use bytes::scan::find;
 use libc::STDIN_FILENO;
 
 // What was read into the buffer and is not handed out yet.
-#[derive(Drop)]
+#[derive(Clone, Copy)]
 pub struct Window {
     pub from: usize,
     pub to: usize,
@@ -21,7 +21,7 @@ pub fn nothing_read() -> Window
 }
 
 // A line's first place and the place behind its last, with what is left behind it.
-#[derive(Drop)]
+#[derive(Clone, Copy)]
 pub enum Line {
     Is(usize, usize, Window),
     Ended,

@@ -31,7 +31,7 @@ pub fn field(s: &[u8], k: usize) -> &[u8]
     &s[from..to]
 }
 
-#[derive(Drop)]
+#[derive(Clone, Copy)]
 pub enum Number {
     Is(u64),
     Missing,
@@ -70,19 +70,19 @@ fn digit_value(b: u8) -> u64
     (b - b'0') as u64
 }
 
-#[derive(Drop)]
+#[derive(Clone, Copy)]
 pub enum Digit {
     Is(u8),
     Missing,
 }
 
-#[derive(Drop)]
+#[derive(Clone, Copy)]
 pub enum Octet {
     Is(u8),
     Missing,
 }
 
-#[derive(Drop)]
+#[derive(Clone, Copy)]
 pub enum Octets {
     Are(usize),
     Missing,
