@@ -1,6 +1,8 @@
 // Reads a book of test pieces from standard input and writes a line for each of its lines to standard output: `N ok GREATEST PAST` or `N no NUMBER`.
 // At the end standard error has the count of frames, of ok and of each number in words; a terminal there is told now and then how far the reading is.
 // A piece is read and fed, and what it gave is written: book_answers::answering says what that is, and that no cut into pieces matters.
+#![tactic(auto)]
+
 mod words; // words.rt: what standard error is told
 
 ghost use Rattle.std.specs.Prelude.{◌≡◌, ◌+◌, ◌*◌, ◌≤◌, ◌<◌, length};

@@ -1,5 +1,7 @@
 // The book of test pieces as functions that C and Rust call: pieces of a book in, answers out. They take anything that they can be handed;
 // include/bulmegart.h says the same for C.
+#![tactic(auto)]
+
 ghost use Rattle.std.specs.Prelude.{◌≡◌, length};
 ghost use Rattle.bulmegart_book.specs.Exported.{handed_refusal, Fed, Ended};
 

@@ -1,2 +1,4 @@
 // What the bench links: initialisation of contexts.
+#![tactic(auto)]
+
 pub mod contexts;

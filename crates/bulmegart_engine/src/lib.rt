@@ -1,2 +1,4 @@
 // What the bench links: the arithmetic engine's start and restart, and the answers of all its calls.
+#![tactic(auto)]
+
 pub mod engine;

@@ -1,4 +1,6 @@
 // The morning figures for C: lent as three arrays of 1,024 (one number for each place), 24 tallies and the totals.
+#![tactic(auto)]
+
 ghost use Rattle.std.specs.Prelude.{◌≡◌, List, ℕ};
 ghost use Rattle.figures.specs.Entries as entries;
 ghost use Rattle.figures.specs.Agree.{held, after_of};

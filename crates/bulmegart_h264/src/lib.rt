@@ -1,5 +1,7 @@
 // H.264's block for C: its entry points as functions that C and Rust call. Each takes anything that it can be handed, and answers by document 01's
 // number; include/bulmegart.h says the same for C.
+#![tactic(auto)]
+
 ghost use Rattle.std.specs.Prelude.{◌≡◌};
 ghost use Rattle.bulmegart_blocks.specs.Lists.{write_given};
 ghost use Rattle.h264_block.specs.Contexts.{pairs_refusal, contexts_after};

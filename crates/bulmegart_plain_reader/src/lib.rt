@@ -1,2 +1,4 @@
 // What a bench with plain cameras links: the payload's reader of crate hevc_plain_coding as a function that C and Rust call.
+#![tactic(auto)]
+
 pub mod plain; // plain.rt: a plain block from a payload

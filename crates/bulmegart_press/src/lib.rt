@@ -1,5 +1,7 @@
 // The press as a function that C and Rust call: a drawing in, a frame of the book out. It takes anything that it can be handed;
 // include/bulmegart.h says the same for C.
+#![tactic(auto)]
+
 ghost use Rattle.std.specs.Prelude.{◌≡◌};
 ghost use Rattle.bulmegart_press.specs.Exported.{answer_of, Given};
 

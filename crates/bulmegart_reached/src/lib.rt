@@ -1,4 +1,6 @@
 // The state that a call of the block reader reaches, for C and Rust.
+#![tactic(auto)]
+
 ghost use Rattle.std.specs.Prelude.{◌≡◌};
 ghost use Rattle.bulmegart_reached.specs.Handed.{reached_handed};
 

@@ -16,6 +16,8 @@
 // record that does not agree the line, what was answered and what is wanted. A line that begins with ! is a record with a wrong result, to show
 // that it is told apart. Whatever else is no record: a key that is unknown, missing, twice or without a value, a value that its key
 // cannot have, a line without the arrow, a result or a line feed, one of more than 262,143 letters, a payload or list of more than 73,728 bytes.
+#![tactic(auto)]
+
 mod kinds; // kinds.rt: which record has which keys, and is answered by which function
 mod scales; // scales.rt: cross-component scales
 mod slices; // slices.rt: whole slices, bin by bin

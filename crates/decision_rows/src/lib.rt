@@ -1,4 +1,6 @@
 // An entry of the decision table where a single decision is made: nothing is laid out. A match on a number is compiled to a constant of the program.
+#![tactic(auto)]
+
 ghost use Rattle.std.specs.Prelude.{◌≡◌, ◌+◌, ◌*◌, ◌/◌, ◌%◌, ◌<◌, get_or};
 ghost use Rattle.tables.specs.Decisions.{decisions};
 ghost use Rattle.decision_rows.specs.Rows.{row_of};

@@ -1,6 +1,8 @@
 // Two frames, two lines of the book (README has their form): can the block depend on what differs between them? Frames are read from standard input, two and two;
 // the first of each pair is the one that is read. hevc_differ::entries::judge decides, and where it says never, it is proved that the second frame's payload gives
 // the same (hevc_differ, never-knows). A line for each pair goes to standard output.
+#![tactic(auto)]
+
 mod words; // words.rt: the judgement in words
 
 ghost use Rattle.std.specs.Prelude.{◌≤◌, length};

@@ -1,4 +1,6 @@
 // Exp-Golomb codes of any order: what a prefix and its suffix stand for, and how long a prefix is.
+#![tactic(auto)]
+
 ghost use Rattle.std.specs.Prelude.{◌≡◌, ◌+◌, ◌-◌, ◌≤◌};
 ghost use Rattle.trees.specs.Shapes.{eg_base};
 ghost use Rattle.exp_golomb.specs.PrefixLaws.{Prefixed};

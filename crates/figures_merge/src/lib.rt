@@ -1,2 +1,4 @@
 // Two benches' figures put together.
+#![tactic(auto)]
+
 pub mod merge;

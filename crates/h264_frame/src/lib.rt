@@ -1,4 +1,6 @@
 // One block of H.264 as a frame: QP, the payload's length in two bytes, high first, 40 pairs m, n as signed bytes, the payload.
+#![tactic(auto)]
+
 ghost use Rattle.std.specs.Prelude.{◌≡◌, true, ◌+◌, ◌*◌, ◌≤◌, ◌<◌, length, get_or};
 ghost use Rattle.cabac.specs.Numbers.{accepted};
 ghost use Rattle.h264_block.specs.Contexts.{pairs_refusal, contexts_after};

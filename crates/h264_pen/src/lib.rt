@@ -1,4 +1,6 @@
 // The places and levels of H.264's 4x4 block as bins.
+#![tactic(auto)]
+
 pub mod levels; // levels.rt: the levels at the significant places
 pub mod magnitude; // magnitude.rt: a magnitude
 pub mod places; // places.rt: the significant places

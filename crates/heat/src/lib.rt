@@ -1,4 +1,6 @@
 // A place of a heat map: how often, of so many blocks, it held a level, as a grey and as a character.
+#![tactic(auto)]
+
 ghost use Rattle.std.specs.Prelude.{◌≡◌, ◌≤◌};
 ghost use Rattle.heat.specs.Heat.{grey_of, shade_of, mark_of};
 

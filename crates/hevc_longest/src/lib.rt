@@ -1,4 +1,6 @@
 // The longest bin list of a block, by its size: a room of so many bytes is never too small.
+#![tactic(auto)]
+
 ghost use Rattle.std.specs.Prelude.{◌≡◌, ◌≤◌};
 ghost use Rattle.hevc_longest.specs.Longest.{longest};
 

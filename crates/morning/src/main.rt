@@ -6,6 +6,8 @@
 // The figures' arrays are apart as in `morning_add::adding::add_event`.
 // A book is the name of a file, or - for standard input.
 // A piece is read and fed: morning_sums::feeding says what that adds up to, and that no cut into pieces matters.
+#![tactic(auto)]
+
 mod table; // table.rt: lines of the table, of one book and of two
 mod words; // words.rt: refusals in words
 

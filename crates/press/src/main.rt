@@ -2,6 +2,8 @@
 // Of a drawing that no picture can hold, and of bad input, there is no line in the book: standard error has it in words, or standard output between
 // the lines, where the first argument is `together`.
 // The line is press_frame's and press_line's, the advice press_advice's: what they promise is what is written here.
+#![tactic(auto)]
+
 mod made; // made.rt: a drawing that is whole, as a line or in words
 mod sheet; // sheet.rt: a drawing line by line
 

@@ -1,6 +1,8 @@
 // Salvages a spoiled book: standard input is the book, standard output the book that comes out. The report, a line for each line, goes to standard
 // error, or to the file that the first argument names, which must be new. At the end standard error has the tally in words.
 // A piece is read and fed, and what it gave is written: spoiled_book::salvage says what that is, and that no cut into pieces matters.
+#![tactic(auto)]
+
 ghost use Rattle.std.specs.Prelude.{◌≡◌, ◌+◌, ◌*◌, ◌≤◌, ◌<◌, length};
 ghost use Rattle.spoiled.specs.Salvage.{all};
 

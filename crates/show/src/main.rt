@@ -6,6 +6,8 @@
 //
 // A frame of H.264 stands behind the word `h264` and a space: QP, the payload length as two bytes, high first, 40 pairs m, n as signed bytes (two's
 // complement), the payload of at most 4,096 bytes.
+#![tactic(auto)]
+
 mod h264; // h264.rt: a frame of H.264
 mod summary; // summary.rt: count, sum and map
 mod words; // words.rt: refusals and findings in words

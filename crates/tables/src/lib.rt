@@ -1,4 +1,6 @@
 // The tables of H.265 9.3.4.3.2, and the decision table that follows from them by one rule.
+#![tactic(auto)]
+
 ghost use Rattle.std.specs.Prelude.{◌≡◌, ◌<◌};
 ghost use Rattle.tables.specs.Tables.{lps_at, on_mps, on_lps, entry_of};
 ghost use Rattle.tables.specs.Decisions.{decisions};

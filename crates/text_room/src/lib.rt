@@ -1,4 +1,6 @@
 // Text into a lent room, piece behind piece. What stands before a piece stays.
+#![tactic(auto)]
+
 ghost use Rattle.std.specs.Prelude.{◌≡◌, ◌+◌, ◌≤◌, ◌++◌, length, take};
 ghost use Rattle.text_room.specs.Decimal.{decimal};
 

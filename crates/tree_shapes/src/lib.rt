@@ -1,4 +1,5 @@
 // The shapes that the elements of any syntax are made of: a bin with a context, and ones counted.
+#![tactic(auto)]
 
 ghost use Rattle.std.specs.Prelude.{◌≡◌, List, ℕ, ◌≤◌, ◌<◌, length};
 ghost use Rattle.tables.specs.Decisions.{decisions};

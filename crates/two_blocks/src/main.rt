@@ -1,5 +1,6 @@
 // Two blocks of one payload, one after the other: through a decoder that holds the payload, and through the plain entry point.
 // A line for each block: extents, greatest magnitude and the position behind it, and whether the two leave the same behind.
+#![tactic(auto)]
 
 use bins::state::Engine;
 use bins::tags::CONTEXTS;

@@ -1,0 +1,5 @@
+use Rattle.bulmegart.specs.RecordLaws.{or_both}
+use Rattle.bulmegart.proofs.records.block_handed.Goals as goal
+
+pub returns : goal.returns
+returns c = or_both _ _ _ _ _ c.or_else-2.ensures c.payload_refusal.ensures (or_both _ _ _ _ _ c.or_else.ensures c.state_flags.ensures c.params_flags.ensures)

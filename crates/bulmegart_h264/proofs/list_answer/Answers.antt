@@ -1,0 +1,8 @@
+use mathlib.Core.Path.{refl}
+use Rattle.bulmegart_h264.proofs.list_answer.Goals as goal
+
+pub returns-in-Block : goal.returns-in-Block
+returns-in-Block c = rw c.in-Block.is refl
+
+pub returns-in-Refused : goal.returns-in-Refused
+returns-in-Refused c = rw c.in-Refused.is refl

@@ -1,0 +1,5 @@
+use mathlib.Core.Path.{refl}
+use Rattle.bulmegart_tray.proofs.trays.tray_answer.Goals as goal
+
+pub returns : goal.returns
+returns c = rw c.state_of.ensures refl

@@ -1,0 +1,10 @@
+use mathlib.Core.Path.{sym}
+use native.Mathlib.Omega.{arith}
+use lib.Seq.{length-take-le}
+use Rattle.case_lent.proofs.lent.front.Goals as goal
+
+-- `front` meets its contract. Assumes nothing.
+pub slice_bounds-result-end : goal.slice_bounds-result-end
+slice_bounds-result-end c =
+    let a = c.args in
+    sym (length-take-le a.n a.block.now (omega arith))

@@ -1,0 +1,11 @@
+use Rattle.h264_pen.specs.LevelPuts.{Leveling}
+use Rattle.pen.specs.Sheet.{sheet}
+use Prim.Native.Nat.{◌-◌}
+use Rattle.h264_pen.proofs.levels.put_levels.Given as goal
+
+-- `put_levels` meets its contract. Assumes nothing.
+abbrev pub invariant-loop-k : goal.invariant-loop-k
+invariant-loop-k l = Leveling l.levels (sheet l.initial.room l.initial.y) l.k l.ones l.bigs (sheet l.room l.y)
+
+abbrev pub decreases-loop-k : goal.decreases-loop-k
+decreases-loop-k l = l.k

@@ -1,0 +1,7 @@
+use Rattle.hevc_rules.specs.BehindLaws.{behind_code}
+use Rattle.hevc_level_rules.proofs.levels.behind.Goals as goal
+
+pub returns : goal.returns
+returns c =
+    let a = c.args in
+    behind_code a.p a.g a.more a.v a.m a.sum a.column _ _ _ _ _ _ _ c.less_one.ensures c.seen_behind.ensures c.less_one-2.ensures c.rice_behind.ensures c.either.ensures c.larger.ensures c.stat_behind.ensures

@@ -1,0 +1,12 @@
+use mathlib.Core.Path.{◌≡◌}
+use native.Mathlib.Omega.{arith}
+use Rattle.hevc_scans.proofs.orders.eight_wide.Goals as goal
+
+pub returns-in-0 : goal.returns-in-0
+returns-in-0 c = rw c.in-0.is c.diagonal8.ensures
+
+pub returns-in-1 : goal.returns-in-1
+returns-in-1 c = rw c.in-1.is c.rows8.ensures
+
+pub returns-in_default : goal.returns-in_default
+returns-in_default c = let p : c.args.scan ≡ 2 = omega arith in rw p c.columns8.ensures

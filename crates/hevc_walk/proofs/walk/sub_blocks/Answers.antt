@@ -1,0 +1,138 @@
+use native.Mathlib.Omega.{arith}
+use Prim.Native.Nat.{◌-◌, ◌*◌, ◌≤◌}
+use mathlib.Core.Path.{◌≡◌}
+use lib.ListN.{length}
+use Rattle.hevc_residual.specs.Wanted.{area, width}
+use Rattle.hevc_rules.specs.SubsAgree.{last_of}
+use Rattle.hevc_rules.specs.WalkLaws.{last_column, last_row, sub_spot, sub_site}
+use Rattle.hevc_walk.specs.WalkLaws.{walk_ends}
+use Rattle.hevc_rules.specs.WalkCode.{last_few, last_in_few, only_last, column_few, row_few}
+use Rattle.hevc_walk.specs.WalkCode.{as_long, code_begins, code_refused, code_on}
+use Rattle.hevc_sub_blocks.specs.SmallLaws.{zeros_long}
+use Rattle.hevc_levels.specs.StoredLaws.{keeps_none}
+use Rattle.hevc_subblock.specs.CarriedKeeps.{keeps_carried}
+use Rattle.hevc_walk.proofs.walk.sub_blocks.Goals as goal
+
+long : (c : goal.Start) → length c.args.block.now ≡ area c.args.p
+long c = zeros_long c.args.p c.args.block.now c.requires.4
+
+within : (c : goal.In-loop-i) → c.loop-i.i - 1 ≤ last_of c.args.p c.args.h
+within c = omega (arith, c.loop-i.invariant.0.few, c.loop-i-test.true)
+
+few : (c : goal.In-loop-i) → c.loop-i.i ≤ 64
+few c =
+    omega (arith, c.loop-i.invariant.0.few, last_few c.args.p c.args.h c.requires.2 c.number_in-last.result c.number_in-last.ensures, c.number_in-last.ensures)
+
+pub inner_order-order-requires : goal.inner_order-order-requires
+inner_order-order-requires c = c.requires.2.scan
+
+pub outer_order-outer-requires : goal.outer_order-outer-requires
+outer_order-outer-requires c = let g = c.requires.2 in (g.least, g.most, g.scan)
+
+pub range_bits-t-requires : goal.range_bits-t-requires
+range_bits-t-requires c = c.requires.2.depth
+
+pub width_of-w-requires : goal.width_of-w-requires
+width_of-w-requires c = let g = c.requires.2 in (g.least, g.most)
+
+pub overflow_sub-p : goal.overflow_sub-p
+overflow_sub-p c = c.requires.2.least
+
+pub number_in-last-requires : goal.number_in-last-requires
+number_in-last-requires c = let a = c.args in let g = c.requires.2 in (omega (arith, g.most), g.scan, last_column a.p a.h c.requires.2, last_row a.p a.h c.requires.2)
+
+pub number_in-lastin-requires : goal.number_in-lastin-requires
+number_in-lastin-requires c = (omega arith, c.requires.2.scan, omega arith, omega arith)
+
+pub overflow_add-i : goal.overflow_add-i
+overflow_add-i c = let a = c.args in omega (arith, last_few a.p a.h c.requires.2 c.number_in-last.result c.number_in-last.ensures)
+
+pub loop-i-init : goal.loop-i-init
+loop-i-init c =
+    let a = c.args in
+    (code_begins a.p a.h a.list a.bytes.now a.x a.contexts.now a.coded.now a.block.now a.stats.now c.number_in-last.result c.number_in-last.ensures c.requires.0 c.requires.3 (long c) c.requires.5, keeps_none a.p a.block.now c.requires.4)
+
+pub overflow_sub-i : goal.overflow_sub-i
+overflow_sub-i c = omega (arith, c.loop-i-test.true)
+
+pub overflow_cast-xs : goal.overflow_cast-xs
+overflow_cast-xs c = omega (arith, few c)
+
+pub offset_bounds-outer-i : goal.offset_bounds-outer-i
+offset_bounds-outer-i c = omega (arith, few c)
+
+pub bounds-outer-i : goal.bounds-outer-i
+bounds-outer-i c = omega (arith, few c, c.loop-i-test.true)
+
+pub bounds-outer-0 : goal.bounds-outer-0
+bounds-outer-0 c = omega arith
+
+pub overflow_cast-xs-in-loop-i : goal.overflow_cast-xs-in-loop-i
+overflow_cast-xs-in-loop-i c = let a = c.args in omega (arith, column_few a.p a.h c.requires.2 c.outer_order-outer.result c.outer_order-outer.ensures (c.loop-i.i - 1) (within c))
+
+pub overflow_cast-ys : goal.overflow_cast-ys
+overflow_cast-ys c = omega (arith, few c)
+
+pub offset_bounds-outer-i-in-loop-i : goal.offset_bounds-outer-i-in-loop-i
+offset_bounds-outer-i-in-loop-i c = omega (arith, few c)
+
+pub bounds-outer-i-in-loop-i : goal.bounds-outer-i-in-loop-i
+bounds-outer-i-in-loop-i c = omega (arith, few c, c.loop-i-test.true)
+
+pub bounds-outer-1 : goal.bounds-outer-1
+bounds-outer-1 c = omega arith
+
+pub overflow_cast-ys-in-loop-i : goal.overflow_cast-ys-in-loop-i
+overflow_cast-ys-in-loop-i c = let a = c.args in omega (arith, row_few a.p a.h c.requires.2 c.outer_order-outer.result c.outer_order-outer.ensures (c.loop-i.i - 1) (within c))
+
+pub sub_block-r-requires : goal.sub_block-r-requires
+sub_block-r-requires c =
+    let a = c.args in
+    let j = c.loop-i.invariant.0 in
+    let m = within c in (
+      j.reads,
+      c.requires.1,
+      c.inner_order-order.ensures,
+      c.width_of-w.ensures,
+      sub_site a.p a.h c.requires.2 c.outer_order-outer.result c.outer_order-outer.ensures (c.loop-i.i - 1) m,
+      j.flags,
+      j.places,
+      c.range_bits-t.ensures,
+      j.statistics,
+      j.carries,
+      sub_spot a.p a.h c.requires.2 c.outer_order-outer.result c.outer_order-outer.ensures (c.loop-i.i - 1) m,
+      last_in_few a.p a.h c.requires.2 c.number_in-lastin.result c.number_in-lastin.ensures,
+      omega (arith, m, c.number_in-last.ensures),
+      only_last a.p a.h c.requires.2 c.number_in-last.result (c.loop-i.i - 1) c.number_in-last.ensures (omega (arith, m, c.number_in-last.ensures)),
+      c.loop-i.invariant.1,
+    )
+
+pub shape_of-coded-in_default : goal.shape_of-coded-in_default
+shape_of-coded-in_default c = as_long c.sub_block-r.new.coded c.args.coded.now (width c.args.p * width c.args.p) c.sub_block-r.ensures.0 c.requires.3
+
+pub shape_of-block-in_default : goal.shape_of-block-in_default
+shape_of-block-in_default c = as_long c.sub_block-r.new.block c.args.block.now (area c.args.p) c.sub_block-r.ensures.1 (long c)
+
+pub returns-in_default : goal.returns-in_default
+returns-in_default c =
+    let a = c.args in
+    (c.sub_block-r.ensures.1, c.sub_block-r.ensures.2, code_refused a.p a.h a.list a.bytes.now a.x a.contexts.now a.coded.now a.block.now a.stats.now c.number_in-last.result c.number_in-last.ensures c.number_in-lastin.result c.number_in-lastin.ensures c.loop-i.i c.loop-i.c c.loop-i.y c.loop-i.contexts c.loop-i.coded c.loop-i.block c.loop-i.stats c.loop-i.invariant.0 (omega (arith, c.loop-i-test.true)) c.sub_block-r.result c.sub_block-r.new.contexts c.sub_block-r.new.coded c.sub_block-r.new.block c.sub_block-r.new.stats c.sub_block-r.ensures.3 _ c.in_default.is, c.sub_block-r.ensures.4)
+
+pub loop-i-smaller : goal.loop-i-smaller
+loop-i-smaller c = omega (arith, c.loop-i-test.true)
+
+pub loop-i-preserved : goal.loop-i-preserved
+loop-i-preserved c =
+    let a = c.args in
+    (code_on a.p a.h a.list a.bytes.now a.x a.contexts.now a.coded.now a.block.now a.stats.now c.number_in-last.result c.number_in-last.ensures c.number_in-lastin.result c.number_in-lastin.ensures c.loop-i.i c.loop-i.c c.loop-i.y c.loop-i.contexts c.loop-i.coded c.loop-i.block c.loop-i.stats c.loop-i.invariant.0 (omega (arith, c.loop-i-test.true)) c.sub_block-r.result c.sub_block-r.new.contexts c.sub_block-r.new.coded c.sub_block-r.new.block c.sub_block-r.new.stats c.sub_block-r.ensures.3 _ _ _ c.in-Got.is c.sub_block-r.ensures.0 c.sub_block-r.ensures.1 c.sub_block-r.ensures.2, keeps_carried a.p c.sub_block-r.result _ _ _ c.sub_block-r.new.block c.sub_block-r.ensures.4 c.in-Got.is)
+
+pub shape_of-coded : goal.shape_of-coded
+shape_of-coded c = as_long c.loop-i.coded c.args.coded.now (width c.args.p * width c.args.p) c.loop-i.invariant.0.flags c.requires.3
+
+pub shape_of-block : goal.shape_of-block
+shape_of-block c = as_long c.loop-i.block c.args.block.now (area c.args.p) c.loop-i.invariant.0.places (long c)
+
+pub returns : goal.returns
+returns c =
+    let a = c.args in
+    (c.loop-i.invariant.0.places, c.loop-i.invariant.0.statistics, walk_ends a.p a.h a.list a.bytes.now a.x a.contexts.now a.coded.now a.block.now a.stats.now c.loop-i.i c.loop-i.c c.loop-i.y c.loop-i.contexts c.loop-i.coded c.loop-i.block c.loop-i.stats c.loop-i.invariant.0 (omega (arith, c.loop-i-test.false)) c.loop-i.k, c.loop-i.invariant.1)
