@@ -96,14 +96,14 @@ pub record SplitIs (f : Bool) (r o ctx x : ℕ) : Type 0 where
   pub context : cond f (x / 256 % 256) (x / 65536) ≡ (split r o ctx).ctx
   pub bit : cond f (ctx / 64) (1 - ctx / 64) ≡ bit_no (split r o ctx).bit
 
-split_by : (f : Bool) (r o ctx x : ℕ) → ctx < 128 → Parts ctx r x
+split_by_lem : (f : Bool) (r o ctx x : ℕ) → ctx < 128 → Parts ctx r x
     → (cond f (r - x % 256) (x % 256) ≡ (split_by f r o ctx (lps_of ctx r)).range)
     × (cond f o (o - (r - x % 256)) ≡ (split_by f r o ctx (lps_of ctx r)).offset)
     × (cond f (x / 256 % 256) (x / 65536) ≡ (split_by f r o ctx (lps_of ctx r)).ctx)
     × (cond f (ctx / 64) (1 - ctx / 64) ≡ bit_no (split_by f r o ctx (lps_of ctx r)).bit)
 unfolding split_by
-split_by true r o ctx x h p = (ap (λ z. r - z) p.lps, refl, p.mps, sym (mps_number ctx h))
-split_by false r o ctx x h p =
+split_by_lem true r o ctx x h p = (ap (λ z. r - z) p.lps, refl, p.mps, sym (mps_number ctx h))
+split_by_lem false r o ctx x h p =
     (p.lps, ap (λ z. o - (r - z)) p.lps, p.other, sym (not_number (val_mps ctx) ∙ ap (λ z. 1 - z) (mps_number ctx h)))
 
 pub split_is : (f : Bool) (r o ctx x : ℕ) → ctx < 128 → x ≡ entry_of ctx (r / 64 % 4) → f ≡ ltb o (r - x % 256) → SplitIs f r o ctx x
@@ -111,7 +111,7 @@ unfolding split
 split_is f r o ctx x h q e =
     let p = parts ctx r x h q in
     let g : f ≡ ltb o (r - lps_of ctx r) = e ∙ ap (λ z. ltb o (r - z)) p.lps in
-    let s = split_by f r o ctx x h p in
+    let s = split_by_lem f r o ctx x h p in
     let w : split_by f r o ctx (lps_of ctx r) ≡ split r o ctx = ap (λ b. split_by b r o ctx (lps_of ctx r)) g in
     record {
       range = s.0 ∙ ap (λ z. z.range) w;

@@ -71,9 +71,9 @@ pub ok_words_lem : (v : Verdict) (g p : ℕ) → v ≡ ofVerdict.Ok g p → ok_w
 unfolding verdict_words
 ok_words_lem v g p e = ap verdict_words (sym e)
 
-pub no_words : (v : Verdict) (n : ℕ) → v ≡ ofVerdict.No n → no_words n ≡ verdict_words v
+pub no_words_lem : (v : Verdict) (n : ℕ) → v ≡ ofVerdict.No n → no_words n ≡ verdict_words v
 unfolding verdict_words
-no_words v n e = ap verdict_words (sym e)
+no_words_lem v n e = ap verdict_words (sym e)
 
 -- ---- the tally
 pub more_stopped : (n : ℕ) → 18446744073709551615 ≤ n → n ≡ one_more n

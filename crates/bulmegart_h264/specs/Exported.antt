@@ -98,6 +98,6 @@ pub list_read : (l : List ℕ) (lent : List ℤ) (r : ReadList) (lent' : List �
     → list_left a lent' ≡ read_list l lent
 list_read l lent r lent' a promise e = ap (λ x. list_left x lent') e ∙ ap list_seen promise
 
-pub list_written : (lent : List ℤ) (room : List ℕ) (r : Written) (room' : List ℕ) (a : WriteAnswer) → bins_written r room' ≡ write_bins lent room → a ≡ write_given (written_says r)
+pub list_written_lem : (lent : List ℤ) (room : List ℕ) (r : Written) (room' : List ℕ) (a : WriteAnswer) → bins_written r room' ≡ write_bins lent room → a ≡ write_given (written_says r)
     → list_written a room' ≡ write_list lent room
-list_written lent room r room' a promise e = ap (λ x. list_written x room') e ∙ ap (λ (w : BinsWritten). list_written (write_given w.answer) w.room) promise
+list_written_lem lent room r room' a promise e = ap (λ x. list_written x room') e ∙ ap (λ (w : BinsWritten). list_written (write_given w.answer) w.room) promise

@@ -42,9 +42,9 @@ unfolding judged_by
 past zero d r h = absurd (h refl)
 past (suc k) d r h = refl
 
-by_place : (d r : ℕ) → by_place d r ≡ judged_by 0 0 0 d r
+by_place_lem : (d r : ℕ) → by_place d r ≡ judged_by 0 0 0 d r
 unfolding judged_by
-by_place d r = refl
+by_place_lem d r = refl
 
 module _ (l m : List ℕ) (e : Engine) (contexts stats : List ℕ) (p : Params) (block : List ℤ) where
   abbrev checks : ℕ
@@ -90,7 +90,7 @@ module _ (l m : List ℕ) (e : Engine) (contexts stats : List ℕ) (p : Params) 
       pub judged_place : 0 ≡ drew_past l e contexts stats p block → (d r : ℕ) → d ≡ first_difference l m → r ≡ place (reached l e contexts stats p block)
           → (j : Judgement) → j ≡ by_place d r → j ≡ judgement l m e contexts stats p block
       judged_place q d r u v j w =
-          w ∙ ap (λ i. by_place i r) u ∙ ap (by_place (first_difference l m)) v ∙ by_place (first_difference l m) end ∙ behind 0 q
+          w ∙ ap (λ i. by_place i r) u ∙ ap (by_place (first_difference l m)) v ∙ by_place_lem (first_difference l m) end ∙ behind 0 q
 
 -- ---- what "never" says
 pub record Apart (n m k d r : ℕ) : Type 0 where

@@ -102,9 +102,9 @@ near_small false true x y = falls_small 2 x
 near_small true true x y = omega arith
 
 -- ---- the map
-map_rows : (y : ℕ) → y ≤ 3 → (x : ℕ) → x ≤ 3 → get_or (get_or map_rows y []) x 0 ≡ get_or ctx_idx_map (y * 4 + x) 0
+map_rows_lem : (y : ℕ) → y ≤ 3 → (x : ℕ) → x ≤ 3 → get_or (get_or map_rows y []) x 0 ≡ get_or ctx_idx_map (y * 4 + x) 0
 unfolding map_rows ctx_idx_map
-map_rows y hy x hx =
+map_rows_lem y hy x hx =
     let p : (y * 4 + x) / 4 ≡ y = omega arith in
     let q : (y * 4 + x) % 4 ≡ x = omega arith in
     let e : get_or (get_or map_rows ((y * 4 + x) / 4) []) ((y * 4 + x) % 4) 0 ≡ get_or ctx_idx_map (y * 4 + x) 0 =
@@ -116,7 +116,7 @@ unfolding ctx_idx_map
 map_all c h = le_below (λ c. get_or ctx_idx_map c 0) (λ _. 99) 16 tt c h
 
 pub map_small : (map : List (List ℕ)) (x y : ℕ) → map ≡ map_rows → x ≤ 3 → y ≤ 3 → get_or (get_or map y []) x 0 ≤ 99
-map_small map x y e hx hy = rw (e, map_rows y hy x hx) (map_all (y * 4 + x) (omega arith))
+map_small map x y e hx hy = rw (e, map_rows_lem y hy x hx) (map_all (y * 4 + x) (omega arith))
 
 -- ---- the component
 pub in_luma : (luma : Bool) (m c : ℕ) → luma ≡ true → in_chroma luma 27 + m ≡ c → m ≡ c
@@ -133,7 +133,7 @@ module _ (log2 scan xs ys x y : ℕ) (luma right below : Bool) (hx : x ≤ 3) (h
   sig_map map e p z =
       let px : 4 * xs + x ≡ x = omega arith in
       let py : 4 * ys + y ≡ y = omega arith in
-      rw (e, map_rows y hy x hx, p, px, py)
+      rw (e, map_rows_lem y hy x hx, p, px, py)
 
   pub sig_four : log2 ≡ 2 → (xs ≡ 0) × (ys ≡ 0)
       → in_chroma luma 27 + get_or ctx_idx_map (y * 4 + x) 0 ≡ sig_ctx log2 luma scan right below (4 * xs + x) (4 * ys + y)

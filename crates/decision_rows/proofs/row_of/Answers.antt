@@ -515,4 +515,4 @@ returns-in-126 c = at_row _ 126 _ c.in-126.is refl
 
 pub returns-in_default : goal.returns-in_default
 unfolding row_of lps_at on_mps on_lps range_tab_lps trans_idx_mps trans_idx_lps
-returns-in_default c = at_row c.args.ctx 127 _ (omega (arith, none_below 127 c.args.ctx c.in_default.rest, c.requires)) refl
+returns-in_default c = at_row c.args.ctx 127 _ (omega arith) refl

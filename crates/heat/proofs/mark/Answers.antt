@@ -1,3 +1,4 @@
+use Rattle.std.proofs.Common.{arith}
 use Rattle.heat.specs.HeatLaws.{mark_at, mark_last}
 use Rattle.heat.specs.Heat.{mark_of}
 use Rattle.heat.proofs.mark.Goals as goal

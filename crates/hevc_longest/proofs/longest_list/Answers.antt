@@ -1,3 +1,4 @@
+use Rattle.std.proofs.Common.{arith}
 use Rattle.hevc_longest.specs.Longest.{longest_five}
 use Rattle.hevc_longest.proofs.longest_list.Goals as goal
 

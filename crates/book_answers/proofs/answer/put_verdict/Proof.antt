@@ -3,7 +3,7 @@ use native.Mathlib.Omega.{arith}
 use borrow.Author.Rules.{rules}
 use lib.ListN.{take}
 use Rattle.text_room.specs.Laws.{one_piece}
-use Rattle.book_answers.specs.CodeLaws.{ok_words_lem, no_words}
+use Rattle.book_answers.specs.CodeLaws.{ok_words_lem, no_words_lem}
 use Rattle.book_answers.proofs.answer.put_verdict.Statement.{statement}
 use Rattle.book_answers.proofs.answer.put_verdict.Tie as tie
 
@@ -39,7 +39,7 @@ returns-2 c =
     let at-v2 = at-put-no.before.before.before in
     let at-start = at-v2.before.before.before in
     let a = at-start.args in
-    (one_piece _ (take a.at a.out.now) _ _ at-put-no.put-no.ensures.0 (no_words a.v _ at-v2.v2.given.1), omega arith)
+    (one_piece _ (take a.at a.out.now) _ _ at-put-no.put-no.ensures.0 (no_words_lem a.v _ at-v2.v2.given.1), omega arith)
 
 pub put-verdict-spec : {M : Type 1} → statement M
 put-verdict-spec = tie.close (tie.spec enum-known-v put-ok-requires enum-known-v-2 put-no-requires same_length returns same-length-2 returns-2)

@@ -1,3 +1,4 @@
+use Rattle.std.proofs.Common.{arith}
 use Prim.Native.Nat.{ℕ, ◌^◌}
 use Rattle.hevc_summary.specs.CodeLaws.{at_two, at_three, at_four, at_five}
 use Rattle.hevc_counts.proofs.counts.side_of.Goals as goal

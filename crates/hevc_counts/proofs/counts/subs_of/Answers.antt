@@ -1,3 +1,4 @@
+use Rattle.std.proofs.Common.{arith}
 use Rattle.hevc_summary.specs.Summary.{subs}
 use Rattle.hevc_summary.specs.CodeLaws.{at_two, at_three, at_four, at_five}
 use Rattle.hevc_counts.proofs.counts.subs_of.Goals as goal

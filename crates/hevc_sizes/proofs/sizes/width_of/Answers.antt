@@ -11,5 +11,3 @@ returns-in-3 c = width_three c.args.log2 c.in-3.is
 pub returns-in-4 : goal.returns-in-4
 returns-in-4 c = width_four c.args.log2 c.in-4.is
 
-pub returns-in_default : goal.returns-in_default
-returns-in_default c = width_five c.args.log2 c.requires (omega arith) (omega arith) (omega arith)

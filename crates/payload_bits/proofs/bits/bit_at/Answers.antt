@@ -5,9 +5,6 @@ use Rattle.bins.specs.BitLaws.{bit_past, get_d_any}
 use lib.ListN.{get_or}
 use Rattle.payload_bits.proofs.bits.bit_at.Goals as goal
 
-pub overflow_cast-result : goal.overflow_cast-result
-overflow_cast-result c = omega (arith, c.type_inv.bytes.given c.byte_of-byte.result.0)
-
 pub returns-then-i-bytes : goal.returns-then-i-bytes
 returns-then-i-bytes c = let a = c.args in ap (λ i. get_or a.bytes.now i 0 / 2 ^ (7 - a.at.0 % 8) % 2) c.byte_of-byte.ensures ∙ ap (λ x. x / 2 ^ (7 - a.at.0 % 8) % 2) (get_d_any a.bytes.now (a.at.0 / 8) 0 255 (omega arith))
 
