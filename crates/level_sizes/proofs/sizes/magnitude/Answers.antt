@@ -28,25 +28,10 @@ kept : (z : ℤ) → lt_z z (pos 0) ≡ false → T (non_neg z)
 kept (pos n) e = tt
 kept (negsuc n) e = subst T e tt
 
-pub overflow_cast-result : goal.overflow_cast-result
-overflow_cast-result c = subst (SFits w64) (sym (to_z-of_z c.ranges.v)) (sfits_widen tt c.ranges.v)
-
-pub overflow_sub-result : goal.overflow_sub-result
-overflow_sub-result c =
-    let n = c.args.v in
-    let f = c.ranges.v in subst (SFits w64) (sym (below n f c.if-v-lt0.true)) (fits n f)
-
 -- what the machine reads back of the difference
 back : (z : ℤ) (f : SFits w32 z) → lt_z (to_z w32 (of_z w32 z)) (pos 0) ≡ true
     → to_z w64 (of_z w64 (pos 0 -ℤ to_z w64 (of_z w64 (to_z w32 (of_z w32 z))))) ≡ pos (nat_abs z)
 back z f e = ap (λ (y : ℤ). to_z w64 (of_z w64 y)) (below z f e) ∙ to_z-of_z (fits z f)
-
-pub overflow_cast-result-then-v-lt0 : goal.overflow_cast-result-then-v-lt0
-overflow_cast-result-then-v-lt0 c =
-    let n = c.args.v in
-    let f = c.ranges.v in
-    subst (λ (y : ℤ). T (non_neg y) × Fits w32 (nat_abs y)) (sym (back n f c.if-v-lt0.true))
-    (tt, record { fits = let h = small n f in omega arith })
 
 pub returns-then-v-lt0 : goal.returns-then-v-lt0
 returns-then-v-lt0 c = ap nat_abs (back c.args.v c.ranges.v c.if-v-lt0.true)
