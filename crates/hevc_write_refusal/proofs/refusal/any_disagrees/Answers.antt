@@ -20,14 +20,13 @@ pub loop-i-init : goal.loop-i-init
 loop-i-init c = let a = c.args in agreeing_begins a.p a.h a.block.now
 
 pub disagrees_at-requires : goal.disagrees_at-requires
-disagrees_at-requires c =
-    (
-      c.inner_order-order.ensures,
-      c.outer_order-outer.ensures,
-      c.requires.0,
-      c.requires.1,
-      omega (arith, c.loop-i-test.true, c.grid-n.ensures.0),
-    )
+disagrees_at-requires c = (
+  c.inner_order-order.ensures,
+  c.outer_order-outer.ensures,
+  c.requires.0,
+  c.requires.1,
+  omega (arith, c.loop-i-test.true, c.grid-n.ensures.0),
+)
 
 pub returns-then-disagrees_at : goal.returns-then-disagrees_at
 returns-then-disagrees_at c =
