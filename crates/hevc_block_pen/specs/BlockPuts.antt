@@ -7,25 +7,25 @@ use Rattle.std.proofs.Math.ListN.{replicate}
 use Rattle.bins.specs.Syn.{done, ◌>>=◌}
 use Rattle.trees.specs.LevelLaws.{near_all}
 use Rattle.trees.specs.ReaderLaws.{or_false}
-use Rattle.hevc◌residual.specs.declared.params.Params.{Params}
-use Rattle.hevc◌residual.specs.declared.params.Rdpcm.{Rdpcm}
-use Rattle.hevc◌residual.specs.Wanted.{Wanted, S, area, outer_of, inner_of}
-use Rattle.hevc◌residual.specs.Head as syntax
+use Rattle.hevc_residual.specs.declared.params.Params.{Params}
+use Rattle.hevc_residual.specs.declared.params.Rdpcm.{Rdpcm}
+use Rattle.hevc_residual.specs.Wanted.{Wanted, S, area, outer_of, inner_of}
+use Rattle.hevc_residual.specs.Head as syntax
 use Rattle.hevc_residual.specs.Head.{head_s, skip_coded, rdpcm_coded, rdpcm_flag}
-use Rattle.hevc◌residual.specs.Remainder.{log2_transform_range}
-use Rattle.hevc◌residual.specs.Refusal.{not_coded, write_refusal}
-use Rattle.hevc◌residual.specs.SubBlock.{Acc}
-use Rattle.hevc◌residual.specs.Residual.{Block, sub_blocks_s, body_s, residual, greatest_of}
-use Rattle.hevc◌residual.specs.Extent.{column_extent_of, row_extent_of}
-use Rattle.hevc◌head◌rules.specs.declared.head.Head.{Head}
-use Rattle.hevc◌head◌rules.specs.HeadOf.{head_of}
-use Rattle.hevc◌rules.specs.SubsAgree.{begun, last_of, last_in_of}
+use Rattle.hevc_residual.specs.Remainder.{log2_transform_range}
+use Rattle.hevc_residual.specs.Refusal.{not_coded, write_refusal}
+use Rattle.hevc_residual.specs.SubBlock.{Acc}
+use Rattle.hevc_residual.specs.Residual.{Block, sub_blocks_s, body_s, residual, greatest_of}
+use Rattle.hevc_residual.specs.Extent.{column_extent_of, row_extent_of}
+use Rattle.hevc_head_rules.specs.declared.head.Head.{Head}
+use Rattle.hevc_head_rules.specs.HeadOf.{head_of}
+use Rattle.hevc_rules.specs.SubsAgree.{begun, last_of, last_in_of}
 use Rattle.pen.specs.Sheet.{Sheet, Wrote}
 use Rattle.pen.specs.SheetLaws.{wrote_then, wrote_call}
-use Rattle.hevc◌pen.specs.HeadLaws.{Codable}
-use Rattle.hevc◌wanted.specs.WritableLaws.{writable}
-use Rattle.hevc◌levels◌pen.specs.LevelsPuts.{AllInRange}
-use Rattle.hevc◌block◌pen.specs.SubsPuts.{acc_at, GoesSubs}
+use Rattle.hevc_pen.specs.HeadLaws.{Codable}
+use Rattle.hevc_wanted.specs.WritableLaws.{writable}
+use Rattle.hevc_levels_pen.specs.LevelsPuts.{AllInRange}
+use Rattle.hevc_block_pen.specs.SubsPuts.{acc_at, GoesSubs}
 
 abbrev pub wanted_of : Bool → Rdpcm → List ℤ → Wanted
 wanted_of skip rdpcm levels = record { skip = skip; rdpcm = rdpcm; levels = levels }

@@ -1,7 +1,7 @@
 -- A head of the code as a head of the syntax.
 use Rattle.std.specs.Prelude.{ℕ, Bool, cond}
-use Rattle.hevc◌residual.specs.declared.params.Rdpcm.{Rdpcm}
-use Rattle.hevc◌residual.specs.Head as syntax
+use Rattle.hevc_residual.specs.declared.params.Rdpcm.{Rdpcm}
+use Rattle.hevc_residual.specs.Head as syntax
 use Rattle.hevc_head_rules.specs.declared.head.Head.{Head}
 
 abbrev pub head_of : Head → syntax.Head

@@ -12,18 +12,18 @@ use Rattle.bins.specs.Tags.{context_count}
 use Rattle.bins.specs.Engine.{bit_no}
 use Rattle.bins.specs.Syn.{done, align, ◌>>=◌}
 use Rattle.bins.specs.Readers.{flag_if, bits_s}
-use Rattle.hevc◌residual.specs.declared.params.Params.{Params}
-use Rattle.hevc◌residual.specs.Layout.{at_greater1, at_greater2, in_chroma}
-use Rattle.hevc◌residual.specs.Scan.{Spot}
-use Rattle.hevc◌residual.specs.Wanted.{Wanted, S, last_of}
-use Rattle.hevc◌residual.specs.Head as syntax
+use Rattle.hevc_residual.specs.declared.params.Params.{Params}
+use Rattle.hevc_residual.specs.Layout.{at_greater1, at_greater2, in_chroma}
+use Rattle.hevc_residual.specs.Scan.{Spot}
+use Rattle.hevc_residual.specs.Wanted.{Wanted, S, last_of}
+use Rattle.hevc_residual.specs.Head as syntax
 use Rattle.hevc_residual.specs.SubBlock.{Acc, Filled, Greater1, greater1_s, count_of, first_greater1, escape_data_present, sign_hidden, signs_no, dues, levels_s, sb_type, coeffs_s}
-use Rattle.hevc◌head◌rules.specs.declared.head.Head.{Head}
-use Rattle.hevc◌places.specs.declared.places.Places.{Places}
-use Rattle.hevc◌places.specs.Packing.{unpack, unmask}
-use Rattle.hevc◌places.specs.PackingLaws.{unpack_front, unpack_length, unpack_last, sixteen_pow, unmask_count, bit_most}
-use Rattle.hevc◌rules.specs.GreaterAgree.{none}
-use Rattle.hevc◌rules.specs.CoeffsAgree.{is_wide, hides, may_hide}
+use Rattle.hevc_head_rules.specs.declared.head.Head.{Head}
+use Rattle.hevc_places.specs.declared.places.Places.{Places}
+use Rattle.hevc_places.specs.Packing.{unpack, unmask}
+use Rattle.hevc_places.specs.PackingLaws.{unpack_front, unpack_length, unpack_last, sixteen_pow, unmask_count, bit_most}
+use Rattle.hevc_rules.specs.GreaterAgree.{none}
+use Rattle.hevc_rules.specs.CoeffsAgree.{is_wide, hides, may_hide}
 
 -- ---- the small functions
 -- a mask that is not 0 has a bit

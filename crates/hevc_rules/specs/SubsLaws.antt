@@ -9,22 +9,22 @@ use Rattle.bins.specs.Tags.{context_count}
 use Rattle.bins.specs.Engine.{bit_no}
 use Rattle.bins.specs.Readers.{odd}
 use Rattle.bins.specs.Syn.{done, bin, ◌>>=◌}
-use Rattle.hevc◌residual.specs.declared.params.Params.{Params}
-use Rattle.hevc◌residual.specs.Layout.{at_sig_coeff, at_coded_sub_block, in_chroma}
-use Rattle.hevc◌residual.specs.Scan.{Spot, spot, sig_ctx}
-use Rattle.hevc◌residual.specs.Wanted.{Wanted, S, width, outer_of, inner_of, spot_in, wanted_in, none, sig_places}
-use Rattle.hevc◌residual.specs.Head as syntax
+use Rattle.hevc_residual.specs.declared.params.Params.{Params}
+use Rattle.hevc_residual.specs.Layout.{at_sig_coeff, at_coded_sub_block, in_chroma}
+use Rattle.hevc_residual.specs.Scan.{Spot, spot, sig_ctx}
+use Rattle.hevc_residual.specs.Wanted.{Wanted, S, width, outer_of, inner_of, spot_in, wanted_in, none, sig_places}
+use Rattle.hevc_residual.specs.Head as syntax
 use Rattle.hevc_residual.specs.SubBlock.{Acc, places_s}
-use Rattle.hevc◌residual.specs.Residual.{is_coded, marked, sig_at, filled_s, sub_block_s}
-use Rattle.hevc◌scans.specs.ScanLaws.{inner_inside, inner_before_last, outer_small, cell_small}
-use Rattle.hevc◌scans.specs.SigLaws.{sig_small}
-use Rattle.hevc◌head◌rules.specs.declared.head.Head.{Head}
-use Rattle.hevc◌head◌rules.specs.HeadOf.{head_of}
-use Rattle.hevc◌rules.specs.declared.coeffs.Carry.{Carry}
-use Rattle.hevc◌places.specs.PlacesAgree.{sig_number}
-use Rattle.hevc◌rules.specs.LevelsAgree.{Site}
-use Rattle.hevc◌rules.specs.CoeffsAgree.{acc_of}
-use Rattle.hevc◌rules.specs.SubsAgree.{coded_at, near}
+use Rattle.hevc_residual.specs.Residual.{is_coded, marked, sig_at, filled_s, sub_block_s}
+use Rattle.hevc_scans.specs.ScanLaws.{inner_inside, inner_before_last, outer_small, cell_small}
+use Rattle.hevc_scans.specs.SigLaws.{sig_small}
+use Rattle.hevc_head_rules.specs.declared.head.Head.{Head}
+use Rattle.hevc_head_rules.specs.HeadOf.{head_of}
+use Rattle.hevc_rules.specs.declared.coeffs.Carry.{Carry}
+use Rattle.hevc_places.specs.PlacesAgree.{sig_number}
+use Rattle.hevc_rules.specs.LevelsAgree.{Site}
+use Rattle.hevc_rules.specs.CoeffsAgree.{acc_of}
+use Rattle.hevc_rules.specs.SubsAgree.{coded_at, near}
 
 -- ---- neighbours
 near_right : (a b : Bool) → odd (bit_no a + 2 * bit_no b) ≡ a

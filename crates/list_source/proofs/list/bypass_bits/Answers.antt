@@ -1,5 +1,5 @@
 use native.Mathlib.Omega.{arith}
-use Prim.Native.Nat.{◌+◌, ◌-◌}
+use Prim.Native.Nat.{◌+◌}
 use lib.Pow.{pow_mono}
 use Rattle.bins.specs.StepLaws.{entries_begin, entries_again, entries_stop, entries_end}
 use Rattle.list_source.proofs.list.bypass_bits.Goals as goal

@@ -31,7 +31,7 @@ pub returns-then-off_at : goal.returns-then-off_at
 returns-then-off_at c =
     let a = c.args in
     first_found (is_off_in a.p a.block.now) (4 ^ (a.p.log2 - 2)) c.loop-i.i c.loop-i.invariant.1 (omega (arith, c.grid-n.ensures.0, c.loop-i-test.true))
-    (sym c.Off-at.ensures ∙ c.if-off_at.true)
+    (sym c.off_at.ensures ∙ c.if-off_at.true)
 
 pub loop-i-smaller : goal.loop-i-smaller
 loop-i-smaller c = omega (arith, c.loop-i-test.true)
@@ -39,7 +39,7 @@ loop-i-smaller c = omega (arith, c.loop-i-test.true)
 pub loop-i-preserved : goal.loop-i-preserved
 loop-i-preserved c =
     let a = c.args in
-    (omega (arith, c.loop-i-test.true), none_on (is_off_in a.p a.block.now) c.loop-i.i c.loop-i.invariant.1 (sym c.Off-at.ensures ∙ c.if-off_at.false))
+    (omega (arith, c.loop-i-test.true), none_on (is_off_in a.p a.block.now) c.loop-i.i c.loop-i.invariant.1 (sym c.off_at.ensures ∙ c.if-off_at.false))
 
 pub returns : goal.returns
 returns c =
