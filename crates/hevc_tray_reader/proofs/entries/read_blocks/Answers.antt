@@ -7,7 +7,7 @@ use native.Mathlib.Omega.{arith}
 use lib.ListN.{length, set, take, drop}
 use Rattle.hevc_residual.specs.declared.params.Params.{Params}
 use Rattle.hevc_residual.specs.Wanted.{area}
-use Rattle.hevc_tray.specs.TrayCode.{Walking, walk_begins, walk_ends, next_accepted, next_room, next_checks, walk_refused, walk_on, read_number}
+use Rattle.hevc_tray.proofs.TrayCode.{Walking, walk_begins, walk_ends, next_accepted, next_room, next_checks, walk_refused, walk_on, read_number}
 use Rattle.hevc_tray_reader.proofs.entries.read_blocks.Goals as goal
 
 pub decision_table-table-requires : goal.decision_table-table-requires
