@@ -1,2 +1,4 @@
 // A block as a grid of text.
+#![tactic(auto)]
+
 pub mod grid; // grid.rt: the levels

@@ -1,8 +1,10 @@
 // Text into a lent room, piece behind piece. What stands before a piece stays.
+#![tactic(auto)]
+
 ghost use Rattle.std.specs.Prelude.{◌≡◌, ◌+◌, ◌≤◌, ◌++◌, length, take};
 ghost use Rattle.text_room.specs.Decimal.{decimal};
 
-use bytes::copy;
+use octet_scan::copy;
 
 // Puts s behind the first `at` bytes; answers the place behind it.
 pub fn put(s: &[u8], out: &mut [u8], at: usize) -> usize
