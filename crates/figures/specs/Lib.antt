@@ -2,7 +2,6 @@ pub mod Figures
 pub mod Entries
 pub mod EachLaws
 pub mod CountLaws
-pub mod AddLaws
 pub mod Agree
 pub mod CodeLaws
 pub mod OutLaws

@@ -9,7 +9,7 @@ use Rattle.trees.specs.Levels.{greatest_of}
 use Rattle.trees.specs.Lent.{contexts_refusal}
 use Rattle.packing.specs.Packs.{entries_most}
 use Rattle.packing.specs.Entries.{BinsPacked, not_packed, pack_into, pack_list}
-use Rattle.packing.specs.EntriesLaws.{tree_checked, tree_read, list_whole, list_left, list_no_lem}
+use Rattle.packing.proofs.EntriesLaws.{tree_checked, tree_read, list_whole, list_left, list_no_lem}
 use Rattle.packer.specs.declared.list.Packing.TheVariants as packing
 use Rattle.packer.specs.IntoCode.{packing_says}
 use Rattle.h264_block.specs.Block.{block}

@@ -5,7 +5,7 @@ use Rattle.std.proofs.Common.{sym, ap, subst, ◌∙◌}
 use Rattle.cabac.specs.Numbers.{refused}
 use Rattle.trees.specs.Lent.{contexts_refusal}
 use Rattle.packing.specs.Entries.{BinsPacked, not_packed}
-use Rattle.packing.specs.EntriesLaws.{refuses_is}
+use Rattle.packing.proofs.EntriesLaws.{refuses_is}
 use Rattle.packer.specs.declared.list.Packing.{Packing}
 use Rattle.packer.specs.declared.list.Packing.TheVariants as packing
 use Rattle.packer.specs.IntoCode.{packing_says}

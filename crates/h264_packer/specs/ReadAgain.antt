@@ -12,10 +12,11 @@ use Rattle.cabac.specs.Entries.{start}
 use Rattle.trees.specs.Levels.{greatest_of}
 use Rattle.trees.specs.Lent.{contexts_refusal}
 use Rattle.packing.specs.Pack.{packed_from}
-use Rattle.packing.specs.TreeLaws.{Lent}
-use Rattle.packing.specs.Packs.{Closes, closes}
+use Rattle.packing.proofs.TreeLaws.{Lent}
+use Rattle.packing.specs.Packs.{Closes}
+use Rattle.packing.proofs.PacksLaws.{closes}
 use Rattle.packing.specs.Entries.{pack_tree}
-use Rattle.packing.specs.EntriesLaws.{accepts_is, tree_read_back}
+use Rattle.packing.proofs.EntriesLaws.{accepts_is, tree_read_back}
 use Rattle.h264_block.specs.Block.{block}
 use Rattle.h264_block.specs.BlockBounds.{block_bounds, block_each}
 use Rattle.h264_block.specs.EntryLaws.{block_passes}

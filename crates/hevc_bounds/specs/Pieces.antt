@@ -153,4 +153,4 @@ pub greater1_each : {n : ℕ} (p : Params) (top : ℕ) (lv : ℕ → Wanted → 
 unfolding greater1_s
 greater1_each p top lv base zero ks g h = each_done (omega arith)
 greater1_each p top lv base (suc i) [] g h = each_done (omega arith)
-greater1_each p top lv base (suc i) (k ∷ ks) g h = each_bin (omega arith) (λ b. each_as (greater1_each p top lv base i ks _ h) (λ r m u. omega arith))
+greater1_each {n = n} p top lv base (suc i) (k ∷ ks) g h = each_bin (omega arith) (λ b. each_as (greater1_each {n = suc n} p top lv base i ks _ h) (λ r m u. omega arith))

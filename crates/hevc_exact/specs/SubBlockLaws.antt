@@ -109,7 +109,7 @@ module _ (p : Params) (b : Wanted) where
     unfolding filled_s sign_hidden
     filled_writes deep i a [] hi f l s g = writes_done (tt, record { same = λ i q. refl; long = refl }, s)
     filled_writes deep i a (k ∷ ks) hi f l s g =
-        writes_as (coeffs_writes p (lv_at p i) (spot_at p i) b h _ k ks a (rw l (cells_in i 16 (k ∷ ks) hi (omega arith) f)) deep s g)
+        writes_as (coeffs_writes p (lv_at p i) (spot_at p i) b h _ k ks a (subst (λ t. Cells p (lv_at p i) (spot_at p i) b t (k ∷ ks)) (sym l) (cells_in i 16 (k ∷ ks) hi (omega arith) f)) deep s g)
         (λ r w. (w.got, w.kept, w.small))
 
     filled_exact : (i : ℕ) (a : Acc) (ks : List ℕ) → i < n → Falling 16 ks → length a.levels ≡ total
@@ -120,7 +120,7 @@ module _ (p : Params) (b : Wanted) where
     filled_exact i a [] hi f l =
         exact_done (record { same = λ i q. refl; long = refl }, λ q. record { sizes = tt; ranged = tt; hidden = λ e. tt })
     filled_exact i a (k ∷ ks) hi f l =
-        exact_as (coeffs_exact p (lv_at p i) (spot_at p i) b h _ k ks a (rw l (cells_in i 16 (k ∷ ks) hi (omega arith) f)))
+        exact_as (coeffs_exact p (lv_at p i) (spot_at p i) b h _ k ks a (subst (λ t. Cells p (lv_at p i) (spot_at p i) b t (k ∷ ks)) (sym l) (cells_in i 16 (k ∷ ks) hi (omega arith) f)))
         (λ r w. ((w.kept, w.fits), λ q. q))
 
     -- ---- one sub-block

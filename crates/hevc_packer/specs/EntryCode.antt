@@ -25,7 +25,7 @@ use Rattle.hevc_scale.specs.declared.entries.ReadList.TheVariants as scaled
 use Rattle.hevc_scale.specs.EntriesAgree as scales
 use Rattle.packing.specs.Packs.{entries_most}
 use Rattle.packing.specs.Entries.{BinsPacked, not_packed, pack_into, pack_list}
-use Rattle.packing.specs.EntriesLaws.{tree_checked, tree_read, list_whole, list_left, list_no_lem}
+use Rattle.packing.proofs.EntriesLaws.{tree_checked, tree_read, list_whole, list_left, list_no_lem}
 use Rattle.packer.specs.declared.list.Packing.TheVariants as packing
 use Rattle.packer.specs.IntoCode.{packing_says}
 use Rattle.hevc_packer.specs.Entries.{places, pack_checks, pack_bins, scale_checks, pack_scale}

@@ -8,7 +8,7 @@ use Rattle.hevc_residual.specs.Wanted.{area}
 use Rattle.hevc_residual.specs.Residual.{residual}
 use Rattle.hevc_cross.specs.Scale.{scale}
 use Rattle.packing.specs.Entries.{BinsPacked, not_packed}
-use Rattle.packing.specs.EntriesLaws.{refuses_is}
+use Rattle.packing.proofs.EntriesLaws.{refuses_is}
 use Rattle.packer.specs.declared.list.Packing.{Packing}
 use Rattle.packer.specs.declared.list.Packing.TheVariants as packing
 use Rattle.packer.specs.IntoCode.{packing_says}

@@ -25,10 +25,11 @@ use Rattle.hevc_cross.specs.Entries as cross
 use Rattle.hevc_cross.specs.ScaleBounds.{scale_bounds, scale_each}
 use Rattle.hevc_cross.specs.EntryLaws.{reads_whole}
 use Rattle.packing.specs.Pack.{packed_from}
-use Rattle.packing.specs.TreeLaws.{Lent}
-use Rattle.packing.specs.Packs.{entries_most, ReadsBack, Closes, closes}
+use Rattle.packing.proofs.TreeLaws.{Lent}
+use Rattle.packing.specs.Packs.{entries_most, ReadsBack, Closes}
+use Rattle.packing.proofs.PacksLaws.{closes}
 use Rattle.packing.specs.Entries.{pack_tree}
-use Rattle.packing.specs.EntriesLaws.{Accepts, accepts_is, tree_read_back}
+use Rattle.packing.proofs.EntriesLaws.{Accepts, accepts_is, tree_read_back}
 use Rattle.hevc_packer.specs.Entries.{places, pack_checks, pack_bins, scale_checks, pack_scale}
 
 -- ---- a block: P is the payload, block any block that a reader is handed

@@ -25,11 +25,12 @@ use Rattle.hevc_checks.specs.ChecksLaws.{contexts_packed}
 use Rattle.hevc_bounds.specs.Pieces.{bins_most, residual_bounds}
 use Rattle.packing.specs.Pack.{begun, Writing, writing, entries_of, packed, packed_from, payload_of}
 use Rattle.packing.specs.FollowLaws.{In, Follows, Wide}
-use Rattle.packing.specs.TreeLaws.{Lent, packed_wide, pack_read}
+use Rattle.packing.proofs.TreeLaws.{Lent, packed_wide, pack_read}
 use Rattle.packing.specs.PayloadLaws.{payload_length, payload_in, begun_wide, started_follows}
-use Rattle.packing.specs.Packs.{entries_most, ReadsBack, Closes, closes, packs}
+use Rattle.packing.specs.Packs.{entries_most, ReadsBack, Closes}
+use Rattle.packing.proofs.PacksLaws.{closes, packs}
 use Rattle.packing.specs.Entries.{BinsPacked, payload_from, pack_tree}
-use Rattle.packing.specs.EntriesLaws.{Accepts, accepts_is}
+use Rattle.packing.proofs.EntriesLaws.{Accepts, accepts_is}
 use Rattle.hevc_packer.specs.Entries.{places}
 use Rattle.hevc_packer.specs.ReadAgain.{residual_bounded, block_lent, reads_payload}
 use Rattle.hevc_packer.specs.Tray.{blocks_s, count_refusal, records_refusal, tray_checks, pack_tray}

@@ -20,7 +20,7 @@ use Rattle.hevc_checks.specs.ChecksLaws.{above_contexts, above_statistics, conte
 use Rattle.hevc_tray.specs.Rows.{params_of, records_of, rows_refusal}
 use Rattle.packing.specs.Packs.{entries_most}
 use Rattle.packing.specs.Entries.{BinsPacked, not_packed, pack_into, pack_list, pack_tree}
-use Rattle.packing.specs.EntriesLaws.{tree_checked, tree_read, list_whole}
+use Rattle.packing.proofs.EntriesLaws.{tree_checked, tree_read, list_whole}
 use Rattle.packer.specs.declared.list.Packing.{Packing}
 use Rattle.packer.specs.declared.list.Packing.TheVariants as packing
 use Rattle.packer.specs.IntoCode.{packing_says}

@@ -8,7 +8,7 @@ use Rattle.bins.specs.Laws.{bind_ok}
 use Rattle.hevc_residual.specs.declared.params.Params.{Params}
 use Rattle.hevc_residual.specs.Residual.{Block, residual}
 use Rattle.packing.specs.Entries.{not_packed, pack_list}
-use Rattle.packing.specs.EntriesLaws.{list_left, list_no_lem}
+use Rattle.packing.proofs.EntriesLaws.{list_left, list_no_lem}
 use Rattle.hevc_packer.specs.Tray.{blocks_s}
 use Rattle.hevc_packer.specs.TrayLaws.{split_blocks, none_blocks}
 use Rattle.hevc_tray_packer.specs.Rows.{Lists, is_end, on_list, lists}

@@ -8,7 +8,7 @@ use Rattle.cabac.specs.Numbers.{accepted, refused, ◌or_else◌}
 use Rattle.cabac.specs.NumberLaws.{or_else_zero}
 use Rattle.hevc_tray.specs.Rows.{records_of, rows_refusal}
 use Rattle.packing.specs.Entries.{BinsPacked, not_packed, pack_tree}
-use Rattle.packing.specs.EntriesLaws.{accepts_is, refuses_is}
+use Rattle.packing.proofs.EntriesLaws.{accepts_is, refuses_is}
 use Rattle.packer.specs.declared.list.Packing.{Packing}
 use Rattle.packer.specs.declared.list.Packing.TheVariants as packing
 use Rattle.packer.specs.IntoCode.{packing_says}

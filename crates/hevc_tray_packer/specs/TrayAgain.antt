@@ -20,7 +20,7 @@ use Rattle.hevc_tray.specs.Rows.{params_of, records_of, rows_refusal, found_rows
 use Rattle.hevc_tray.specs.Tray as reader
 use Rattle.hevc_tray.specs.Tray.{Tray, TrayRead, on_block, tray, read_tray_by, read_tray, read_rows}
 use Rattle.hevc_tray.specs.AbleLaws.{Able, checks_able}
-use Rattle.hevc_tray.specs.ChecksCode.{count_fine, rooms_fine}
+use Rattle.hevc_tray.proofs.ChecksCode.{count_fine, rooms_fine}
 use Rattle.packing.specs.Pack.{packed_from}
 use Rattle.packing.specs.Packs.{Closes}
 use Rattle.hevc_packer.specs.TrayLaws.{InTurn, Lists, TrayAgain}

@@ -46,7 +46,7 @@ run_added (Run.fed {r} {f} {f'} {f''} {piece} {pieces} w v) =
 pub run_whole : {cs : List (List ℕ)} {f : Four} → Run begun no_sums cs f → f ≡ book_sums (joined cs)
 run_whole {cs} w = run_added w ∙ ap (added no_sums) (cut event_line event_clips cs)
 
--- ---- each size's are figures' own: add-is-count and order-free of figures/specs/AddLaws say what that is
+-- ---- each size's are figures' own: add-is-count and order-free of figures/proofs/AddLaws say what that is
 module _ (pick : Four → Sum) (picks : (f : Four) (e : Event) → (pick (four_plus f e)).figures ≡ (add (pick f).figures e).figures) where
   picked : (f : Four) (es : List Event) → (pick (added f es)).figures ≡ add_all (pick f).figures es
   unfolding added add_all

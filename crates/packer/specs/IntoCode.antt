@@ -4,9 +4,9 @@ use Rattle.std.proofs.Common.{sym, ap, ap₂, ◌∙◌, arith, leb-true}
 use Rattle.cabac.specs.Numbers.{accepted, refused}
 use Rattle.packing.specs.Pack.{begun, writing, entries_of, packed_from}
 use Rattle.packing.specs.PayloadLaws.{payload_length, begun_wide}
-use Rattle.packing.specs.Packs.{packed_n, entries_length}
+use Rattle.packing.proofs.PacksLaws.{packed_n, entries_length}
 use Rattle.packing.specs.Entries.{BinsPacked, payload_from, pack_into}
-use Rattle.packing.specs.EntriesLaws.{into_long, into_fits}
+use Rattle.packing.proofs.EntriesLaws.{into_long, into_fits}
 use Rattle.packer.specs.declared.list.Packing.{Packing}
 use Rattle.packer.specs.declared.list.Packing.TheVariants as packing
 use Rattle.packer.specs.WalkLaws.{Laid}

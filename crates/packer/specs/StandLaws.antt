@@ -7,8 +7,8 @@ use Rattle.bins.specs.Engine.{bit_no}
 use Rattle.tables.specs.Tables.{lps_of}
 use Rattle.packing.specs.Pack.{Enc, begun, widened, encoded, bypass_enc, align_enc, Entry, of_context, of_bypass, of_align, Writing, writing, favoured, packed_bin, packed_entry, packed, octets, filled, flushed, payload_of}
 use Rattle.packing.specs.FollowLaws.{Wide}
-use Rattle.packing.specs.TreeLaws.{entry_wide}
-use Rattle.packing.specs.Packs.{packed_n}
+use Rattle.packing.proofs.TreeLaws.{entry_wide}
+use Rattle.packing.proofs.PacksLaws.{packed_n}
 use Rattle.packer_steps.specs.declared.coder.Coder.{Coder}
 use Rattle.packer_steps.specs.Register.{register_of, Steady, Grown, spared, PutOut, inked, last_two, last_of}
 use Rattle.packer_steps.specs.RoomLaws.{placed_is, inked_length}

@@ -11,7 +11,8 @@ use Rattle.bins.specs.Readers.{odd}
 use Rattle.bins.specs.CodeLaws.{Packed, packed_set}
 use Rattle.packing.specs.Pack.{Enc, begun, encoded, bypass_enc, align_enc, Entry, of_context, of_bypass, of_align, kind_of, entries_of, Writing, writing, favoured, ctx_after, packed_bin, packed_entry, packed, payload_of, packed_from}
 use Rattle.packing.specs.PayloadLaws.{begun_wide, payload_length}
-use Rattle.packing.specs.Packs.{packed_n, entries_length, entries_most}
+use Rattle.packing.specs.Packs.{entries_most}
+use Rattle.packing.proofs.PacksLaws.{packed_n, entries_length}
 use Rattle.packer_steps.specs.declared.coder.Coder.{Coder}
 use Rattle.packer_steps.specs.Register.{register_of, Steady, Grown, PutOut, last_of}
 use Rattle.packer.specs.StandLaws.{Stands, coder_begun, stands_begin, stands_wide, stands_few, stands_contexts, stands_more, stands_out, Closed, stands_flush}

@@ -1,9 +1,6 @@
 pub mod Pack
 pub mod PutBits
 pub mod FollowLaws
-pub mod TreeLaws
 pub mod PayloadLaws
 pub mod Packs
-pub mod PutBitsLaws
 pub mod Entries
-pub mod EntriesLaws

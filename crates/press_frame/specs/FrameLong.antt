@@ -8,7 +8,7 @@ use Rattle.std.proofs.Math.Seq.{get_or-append-add}
 use Rattle.bins.specs.Tags.{context_count}
 use Rattle.cabac.specs.Numbers.{accepted}
 use Rattle.hevc_residual.specs.Residual.{residual}
-use Rattle.packing.specs.EntriesLaws.{accepts_is}
+use Rattle.packing.proofs.EntriesLaws.{accepts_is}
 use Rattle.hevc_packer.specs.Entries.{pack_checks, pack_bins}
 use Rattle.frame.specs.Frame.{byte_of, params_of}
 use Rattle.press_frame.specs.Pressed.{frame_of, no_statistics, contexts_of, packed_for}

@@ -18,7 +18,7 @@ use Rattle.hevc_residual.specs.declared.answers.Written.{Written}
 use Rattle.hevc_residual.specs.declared.answers.Written.TheVariants as ofWritten
 use Rattle.hevc_residual.specs.Answers.{written_says, bins_written}
 use Rattle.packing.specs.Entries.{BinsPacked, payload_from}
-use Rattle.packing.specs.EntriesLaws.{accepts_is}
+use Rattle.packing.proofs.EntriesLaws.{accepts_is}
 use Rattle.packer.specs.declared.list.Packing.{Packing}
 use Rattle.packer.specs.declared.list.Packing.TheVariants as ofPacking
 use Rattle.packer.specs.IntoCode.{packing_says}

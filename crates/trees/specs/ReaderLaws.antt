@@ -154,7 +154,7 @@ module _ {B : Type 0} (f : ℕ → ℕ) (top : ℕ) (v : B → ℕ) (b : B) wher
         → Exact (ones_s n g (λ g t. leb (f (suc g)) (v t))) b (λ a. (g ≤ a) × (a ≤ top)) (Group f top (v b))
     unfolding ones_s
     ones_exact_from zero g e = exact_done (omega arith, omega arith)
-    ones_exact_from (suc n) g e = exact_bypass (λ d. elim d as (λ x. Exact (elim x [ | true ↦ ones_s n (suc g) (λ g t. leb (f (suc g)) (v t)) | false ↦ done g ]) b (λ a. ((g ≤ a) × (a ≤ top)) × (Group f top (v b) a → leb (f (suc g)) (v b) ≡ x)) (Group f top (v b))) [
+    ones_exact_from (suc n) g e = exact_bypass (λ d. elim d as (λ x. Exact (elim x [ true ↦ ones_s n (suc g) (λ g t. leb (f (suc g)) (v t)) | false ↦ done g ]) b (λ a. ((g ≤ a) × (a ≤ top)) × (Group f top (v b) a → leb (f (suc g)) (v b) ≡ x)) (Group f top (v b))) [
       | true ↦ exact_as (ones_exact_from n (suc g) (omega arith)) (λ a h.
           (((omega arith, h.1), λ q. le-leb (f (suc g)) (v b) (omega (arith, up (suc g) a h.0 h.1, q.under))), λ q. q))
       | false ↦ exact_done ((omega arith, omega arith), λ q. lt-leb (f (suc g)) (v b) (q.over (omega arith)))
@@ -164,7 +164,7 @@ module _ {B : Type 0} (f : ℕ → ℕ) (top : ℕ) (v : B → ℕ) (b : B) wher
         → Exact (prefix_s base sh n g (λ g t. leb (f (suc g)) (v t))) b (λ a. (g ≤ a) × (a ≤ top)) (Group f top (v b))
     unfolding prefix_s
     prefix_exact_from base sh zero g e = exact_done (omega arith, omega arith)
-    prefix_exact_from base sh (suc n) g e = exact_bin (λ d. elim d as (λ x. Exact (elim x [ | true ↦ prefix_s base sh n (suc g) (λ g t. leb (f (suc g)) (v t)) | false ↦ done g ]) b (λ a. ((g ≤ a) × (a ≤ top)) × (Group f top (v b) a → leb (f (suc g)) (v b) ≡ x)) (Group f top (v b))) [
+    prefix_exact_from base sh (suc n) g e = exact_bin (λ d. elim d as (λ x. Exact (elim x [ true ↦ prefix_s base sh n (suc g) (λ g t. leb (f (suc g)) (v t)) | false ↦ done g ]) b (λ a. ((g ≤ a) × (a ≤ top)) × (Group f top (v b) a → leb (f (suc g)) (v b) ≡ x)) (Group f top (v b))) [
       | true ↦ exact_as (prefix_exact_from base sh n (suc g) (omega arith)) (λ a h.
           (((omega arith, h.1), λ q. le-leb (f (suc g)) (v b) (omega (arith, up (suc g) a h.0 h.1, q.under))), λ q. q))
       | false ↦ exact_done ((omega arith, omega arith), λ q. lt-leb (f (suc g)) (v b) (q.over (omega arith)))

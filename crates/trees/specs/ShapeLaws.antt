@@ -36,7 +36,7 @@ module _ {B : Type 0} (f : ℕ → ℕ) (top : ℕ) (v : B → ℕ) (b : B) (ctx
         → Exact (count_s ctx n g (λ g t. leb (f (suc g)) (v t))) b (λ a. (g ≤ a) × (a ≤ top)) (Group f top (v b))
     unfolding count_s
     count_exact_from zero g e = exact_done (omega arith, omega arith)
-    count_exact_from (suc n) g e = exact_bin (λ d. elim d as (λ x. Exact (elim x [ | true ↦ count_s ctx n (suc g) (λ g t. leb (f (suc g)) (v t)) | false ↦ done g ]) b (λ a. ((g ≤ a) × (a ≤ top)) × (Group f top (v b) a → leb (f (suc g)) (v b) ≡ x)) (Group f top (v b))) [
+    count_exact_from (suc n) g e = exact_bin (λ d. elim d as (λ x. Exact (elim x [ true ↦ count_s ctx n (suc g) (λ g t. leb (f (suc g)) (v t)) | false ↦ done g ]) b (λ a. ((g ≤ a) × (a ≤ top)) × (Group f top (v b) a → leb (f (suc g)) (v b) ≡ x)) (Group f top (v b))) [
       | true ↦ exact_as (count_exact_from n (suc g) (omega arith)) (λ a h.
           (((omega arith, h.1), λ q. le-leb (f (suc g)) (v b) (omega (arith, up (suc g) a h.0 h.1, q.under))), λ q. q))
       | false ↦ exact_done ((omega arith, omega arith), λ q. lt-leb (f (suc g)) (v b) (q.over (omega arith)))

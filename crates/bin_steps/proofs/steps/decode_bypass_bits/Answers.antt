@@ -8,12 +8,6 @@ use Rattle.bins.specs.SourceLaws.{readable_goes, bits_taken}
 use Rattle.bin_steps.proofs.steps.decode_bypass_bits.Goals as goal
 
 -- `decode_bypass_bits` meets its contract. Assumes nothing.
-pub bypass_few-t-requires : goal.bypass_few-t-requires
-bypass_few-t-requires c = let a = c.args in (readable_goes a.bytes.now a.x a.list (not-true a.list c.if-not-list.true) c.requires.0, c.if-n-le16.true)
-
-pub returns-then-n-le16 : goal.returns-then-n-le16
-returns-then-n-le16 c = let a = c.args in bits_taken a.bytes.now a.x a.list a.n _ _ (not-true a.list c.if-not-list.true) c.bypass_few-t.ensures c.step_of.ensures
-
 pub decode_bypass_bits_by_parts-requires : goal.decode_bypass_bits_by_parts-requires
 decode_bypass_bits_by_parts-requires c = rw (lent_whole c.args.bytes.now) (c.requires.0, c.requires.1)
 
@@ -21,3 +15,9 @@ pub returns : goal.returns
 returns c =
     let a = c.args in
     c.decode_bypass_bits_by_parts.ensures ∙ ap (λ (l : List ℕ). step_of_bits (bits_from a.list l a.n a.x)) (lent_whole a.bytes.now)
+
+pub bypass_few-t-requires : goal.bypass_few-t-requires
+bypass_few-t-requires c = let a = c.args in (readable_goes a.bytes.now a.x a.list c.if-not-list.true c.requires.0, c.if-n-le16.true)
+
+pub returns-then-n-le16 : goal.returns-then-n-le16
+returns-then-n-le16 c = let a = c.args in bits_taken a.bytes.now a.x a.list a.n _ _ c.if-not-list.true c.bypass_few-t.ensures c.step_of.ensures

@@ -45,8 +45,7 @@ returns-then-not-in_range c =
 
 pub store-requires : goal.store-requires
 store-requires c =
-    let a = c.args in
-    (
+    let a = c.args in (
       c.requires.1,
       omega (
         arith,

@@ -16,8 +16,7 @@ returns-then-most-n c =
 
 pub decode_bypass_bits-g-requires : goal.decode_bypass_bits-g-requires
 decode_bypass_bits-g-requires c =
-    let a = c.args in
-    (
+    let a = c.args in (
       ones_readable a.list a.bytes.now a.most a.x c.ones-f.result c.ones-f.ensures _ _ c.in-Bin.is c.requires.0,
       omega
           (arith, ones_upto a.list a.bytes.now a.most a.x c.ones-f.result c.ones-f.ensures _ _ c.in-Bin.is, c.requires.1),

@@ -24,8 +24,7 @@ returns-then-q-lt14 c =
 
 pub exp_golomb-g-requires : goal.exp_golomb-g-requires
 exp_golomb-g-requires c =
-    let a = c.args in
-    (
+    let a = c.args in (
       (counted_reads a.list a.bytes.now a.ones a.bigs a.x a.contexts.now c.count-f.result c.count-f.new.contexts c.first_number-first.result c.later_number-later.result c.first_number-first.ensures
           c.later_number-later.ensures c.count-f.ensures _ _ c.in-Bin.is c.requires.0).0,
       omega arith,

@@ -15,8 +15,7 @@ returns-then-b-eq0 c =
 
 pub context_bin-g-requires : goal.context_bin-g-requires
 context_bin-g-requires c =
-    let a = c.args in
-    (
+    let a = c.args in (
       place_reads a.list a.bytes.now a.k a.x a.contexts.now c.requires.0 c.context_bin-f.result c.context_bin-f.new.contexts c.context_bin-f.ensures _ _
           c.in-Bin.is c.if-b-eq0.false,
       omega (arith, c.context_bin-arg-2-1.given.0.1, c.requires.1),

@@ -9,8 +9,7 @@ returns-in_default c =
 
 pub levels-requires : goal.levels-requires
 levels-requires c =
-    let a = c.args in
-    (
+    let a = c.args in (
       block_reads a.list a.bytes.now a.x a.contexts.now c.places-f.result c.places-f.new.contexts c.places-f.new.marks c.places-f.ensures _ _ c.in-Bin.is
           c.requires.0,
       c.requires.2,

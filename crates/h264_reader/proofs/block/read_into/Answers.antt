@@ -10,8 +10,7 @@ returns-in_default c =
 
 pub copy-requires-2 : goal.copy-requires-2
 copy-requires-2 c =
-    let a = c.args in
-    (
+    let a = c.args in (
       c.requires.1,
       block_long a.list a.bytes.now a.x a.contexts.now c.read_block-r.new.contexts c.read_block-r.new.block c.read_block-r.result c.read_block-r.ensures _ _
           c.in-Bin.is,

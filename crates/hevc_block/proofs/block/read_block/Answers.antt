@@ -24,8 +24,7 @@ slice_bounds-sub_blocks-end c = coded_room c.args.p c.grid-n.result c.grid-n.ens
 
 pub sub_blocks-s-requires : goal.sub_blocks-s-requires
 sub_blocks-s-requires c =
-    let a = c.args in
-    (
+    let a = c.args in (
       head_reads a.p c.requires.2 a.list a.bytes.now a.x a.contexts.now a.stats.now c.read_head-r.result c.read_head-r.new.contexts c.read_head-r.ensures c.in-Got.h c.in-Got.x1 c.in-Got.is c.requires.0,
       c.requires.1,
       head_last a.p c.requires.2 a.list a.bytes.now a.x a.contexts.now a.stats.now c.read_head-r.result c.read_head-r.new.contexts c.read_head-r.ensures c.in-Got.h c.in-Got.x1 c.in-Got.is,

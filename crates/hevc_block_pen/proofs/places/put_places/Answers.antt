@@ -41,13 +41,12 @@ put_bin-y-requires c =
     put_number c.number_at-number.result _ c.number_at-number.ensures (c.requires.2 (c.loop-k.k - 1) (omega (arith, c.loop-k.invariant.low)))
 
 pub appended-s-requires : goal.appended-s-requires
-appended-s-requires c =
-    (
-      c.loop-k.invariant.packs,
-      omega (arith, c.loop-k.invariant.few, c.loop-k-test.true),
-      omega (arith, c.loop-k.invariant.few, c.loop-k-test.true),
-      c.is_level-b.ensures.1,
-    )
+appended-s-requires c = (
+  c.loop-k.invariant.packs,
+  omega (arith, c.loop-k.invariant.few, c.loop-k-test.true),
+  omega (arith, c.loop-k.invariant.few, c.loop-k-test.true),
+  c.is_level-b.ensures.1,
+)
 
 pub loop-k-smaller : goal.loop-k-smaller
 loop-k-smaller c = omega arith

@@ -23,13 +23,12 @@ number_in-last-requires c =
     )
 
 pub number_in-lastin-requires : goal.number_in-lastin-requires
-number_in-lastin-requires c =
-    (
-      omega arith,
-      c.requires.2.scan,
-      omega arith,
-      omega arith,
-    )
+number_in-lastin-requires c = (
+  omega arith,
+  c.requires.2.scan,
+  omega arith,
+  omega arith,
+)
 
 pub overflow_add-i : goal.overflow_add-i
 overflow_add-i c =

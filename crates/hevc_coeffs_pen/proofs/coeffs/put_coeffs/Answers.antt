@@ -21,11 +21,10 @@ put_flag_if-a-requires c =
     number_few a.p.luma a.ctxset c.greater2_number.result c.greater2_number.ensures c.requires.3
 
 pub hidden-requires : goal.hidden-requires
-hidden-requires c =
-    (
-      c.requires.4,
-      c.requires.5,
-    )
+hidden-requires c = (
+  c.requires.4,
+  c.requires.5,
+)
 
 pub overflow_sub-coded : goal.overflow_sub-coded
 overflow_sub-coded c =
@@ -51,8 +50,7 @@ bounds-stats-sb c = sb_few c.sb_type-sb.result c.args.p.luma (skip_or_bypass c.a
 
 pub put_levels-l-requires : goal.put_levels-l-requires
 put_levels-l-requires c =
-    let a = c.args in
-    (
+    let a = c.args in (
       c.requires.0,
       c.requires.1,
       start_fine a.p a.s c.put_greater1-g.result.mask c.eight-n.result c.hidden.result c.rice_start.result _ a.stats.now
@@ -70,8 +68,7 @@ shape_of-room c = c.room-5-1.given ∙ c.room-4-1.given ∙ c.room-3-1.given ∙
 
 pub returns : goal.returns
 returns c =
-    let a = c.args in
-    (
+    let a = c.args in (
       c.put_greater1-g.ensures.1,
       stats_set a.stats.now c.sb_type-sb.result c.put_levels-l.result.going.stat c.requires.2 c.put_levels-l.ensures.0.stat,
       coeffs_put a.p a.h a.ctxset a.s a.levels.now a.stats.now c.requires.5 c.eight-n.result

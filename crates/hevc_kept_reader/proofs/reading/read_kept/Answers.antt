@@ -30,8 +30,7 @@ count_all-after-requires c =
 pub returns-then-read_came : goal.returns-then-read_came
 returns-then-read_came c =
     let a = c.args in
-    let p = formed c in
-    (
+    let p = formed c in (
       read_came a.f a.bytes.now a.e a.contexts.now a.stats.now a.p a.levels.now a.counts.now a.sums.now a.whole (passed c) c.residual_coding-read.result c.residual_coding-read.new.contexts c.residual_coding-read.new.stats c.residual_coding-read.new.block c.residual_coding-read.ensures
           (sym c.read_came.ensures ∙ c.if2.true) c.count_all-after.new.counts c.count_all-after.new.sums c.count_all-after.result c.count_all-after.ensures.0 c.count_all-after.ensures.1 c.count_all-after.ensures.2,
       fresh_keeps a.f.log2 _ _ (fresh_true a.f.log2 p.least p.most c.residual_coding-read.new.block a.counts.now a.sums.now c.count_all-after.ensures.3 c.count_all-after.new.counts c.count_all-after.new.sums c.count_all-after.result c.count_all-after.ensures.0 c.count_all-after.ensures.1 c.count_all-after.ensures.2 c.count_all-after.ensures.4 c.count_all-after.ensures.5),

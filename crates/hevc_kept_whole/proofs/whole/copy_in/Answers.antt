@@ -33,8 +33,7 @@ count_all-after-requires c =
 pub returns : goal.returns
 returns c =
     let a = c.args in
-    let p = (copy_passed a.f a.g a.from.now a.levels.now (passed c)).to in
-    (
+    let p = (copy_passed a.f a.g a.from.now a.levels.now (passed c)).to in (
       copy_done a.f a.g a.from.now a.levels.now a.counts.now a.sums.now a.whole (passed c) c.area_of.result c.area_of.ensures c.copy.new.levels c.copy.ensures c.count_all-after.new.counts c.count_all-after.new.sums c.count_all-after.result c.count_all-after.ensures.0 c.count_all-after.ensures.1 c.count_all-after.ensures.2,
       fresh_keeps a.f.log2 _ _ (fresh_true a.f.log2 p.least p.most c.copy.new.levels a.counts.now a.sums.now c.count_all-after.ensures.3 c.count_all-after.new.counts c.count_all-after.new.sums c.count_all-after.result c.count_all-after.ensures.0 c.count_all-after.ensures.1 c.count_all-after.ensures.2 c.count_all-after.ensures.4 c.count_all-after.ensures.5),
     )

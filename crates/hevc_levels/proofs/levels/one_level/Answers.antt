@@ -48,7 +48,7 @@ pub returns-then-not-in_range : goal.returns-then-not-in_range
 returns-then-not-in_range c =
     let a = c.args in
     let h = c.requires in
-    (h.3, level_out a.p a.xs a.ys a.list a.bytes.now a.greater2 a.signs a.g a.x a.block.now h.2 h.5 h.6 c.base_of-d.result.level c.base_of-d.result.more c.base_of-d.ensures c.extra-e.result c.extra-e.ensures c.in-Bin.v c.in-Bin.y c.in-Bin.is a.t c.is_negative-negative.result c.in_range.result h.4 c.is_negative-negative.ensures c.in_range.ensures (not-true c.in_range.result c.if-not-in_range.true), tt)
+    (h.3, level_out a.p a.xs a.ys a.list a.bytes.now a.greater2 a.signs a.g a.x a.block.now h.2 h.5 h.6 c.base_of-d.result.level c.base_of-d.result.more c.base_of-d.ensures c.extra-e.result c.extra-e.ensures c.in-Bin.v c.in-Bin.y c.in-Bin.is a.t c.is_negative-negative.result c.in_range.result h.4 c.is_negative-negative.ensures c.in_range.ensures c.if-not-in_range.true, tt)
 
 pub is_free-free-requires : goal.is_free-free-requires
 is_free-free-requires c = in-block c
@@ -71,7 +71,7 @@ pub returns : goal.returns
 returns c =
     let a = c.args in
     let h = c.requires in
-    let m = level_got a.p a.xs a.ys a.list a.bytes.now a.greater2 a.signs a.g a.x a.block.now h.2 h.5 h.6 c.base_of-d.result.level c.base_of-d.result.more c.base_of-d.ensures c.extra-e.result c.extra-e.ensures c.in-Bin.v c.in-Bin.y c.in-Bin.is a.t c.is_negative-negative.result c.in_range.result h.4 c.is_negative-negative.ensures c.in_range.ensures (not-false c.in_range.result c.if-not-in_range.false) c.cell_of-cell.result.column c.cell_of-cell.result.at c.cell_of-cell.ensures c.behind.result c.behind.ensures c.store.new.block c.store.ensures h.3 h.0 c.stored_behind-told.result in (
+    let m = level_got a.p a.xs a.ys a.list a.bytes.now a.greater2 a.signs a.g a.x a.block.now h.2 h.5 h.6 c.base_of-d.result.level c.base_of-d.result.more c.base_of-d.ensures c.extra-e.result c.extra-e.ensures c.in-Bin.v c.in-Bin.y c.in-Bin.is a.t c.is_negative-negative.result c.in_range.result h.4 c.is_negative-negative.ensures c.in_range.ensures c.if-not-in_range.false c.cell_of-cell.result.column c.cell_of-cell.result.at c.cell_of-cell.ensures c.behind.result c.behind.ensures c.store.new.block c.store.ensures h.3 h.0 c.stored_behind-told.result in (
       m.0,
       m.1,
       keeps_stored a.p a.k a.block.now h.7 c.cell_of-cell.result.at (in-block c) c.is_negative-negative.result (c.base_of-d.result.level + c.in-Bin.v) (omega (arith, level-least c)) c.is_free-free.result c.is_free-free.ensures c.stored_behind-told.result c.stored_behind-told.ensures c.store.new.block c.store.ensures,

@@ -15,8 +15,7 @@ returns-then-mask-eq0 c = (λ q. refl, λ lv w g h. absurd (omega arith))
 pub returns : goal.returns
 returns c =
     let l = c.args.levels.now in
-    let f : SFits w32 (get_or l c.first_greater1-k.result (pos 0)) = record { sfits = c.magnitude-arg-1.given } in
-    (
+    let f : SFits w32 (get_or l c.first_greater1-k.result (pos 0)) = record { sfits = c.magnitude-arg-1.given } in (
       λ q. absurd (c.if-mask-eq0.false q),
       λ lv w g h. greater2_is l c.first_greater1-k.result _ c.magnitude.result c.first_greater1-k.ensures.0 c.first_greater1-k.ensures.1 (c.magnitude.ensures ∙ ap nat_abs (to_z-of_z f)) lv w g,
     )

@@ -41,11 +41,10 @@ overflow_add-mask c =
     )
 
 pub carry_next-carry-requires : goal.carry_next-carry-requires
-carry_next-carry-requires c =
-    (
-      c.is_big-b.ensures.1,
-      c.loop-j.invariant.low,
-    )
+carry_next-carry-requires c = (
+  c.is_big-b.ensures.1,
+  c.loop-j.invariant.low,
+)
 
 pub overflow_add-j : goal.overflow_add-j
 overflow_add-j c = omega (arith, c.loop-j-test.true, c.requires.2)

@@ -7,13 +7,12 @@ pub loop-g-init : goal.loop-g-init
 loop-g-init c = let a = c.args in levels_begin a.p a.levels.now a.greater2 a.start (sheet a.room.now a.pen) c.requires.2
 
 pub put_level-r-requires : goal.put_level-r-requires
-put_level-r-requires c =
-    (
-      c.requires.0,
-      c.requires.1,
-      c.loop-g.invariant.fine,
-      c.loop-g-test.true,
-    )
+put_level-r-requires c = (
+  c.requires.0,
+  c.requires.1,
+  c.loop-g.invariant.fine,
+  c.loop-g-test.true,
+)
 
 pub loop-g-smaller : goal.loop-g-smaller
 loop-g-smaller c = omega (arith, c.put_level-r.ensures.1)

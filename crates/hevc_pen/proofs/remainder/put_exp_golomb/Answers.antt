@@ -6,8 +6,7 @@ use Rattle.hevc_pen.proofs.remainder.put_exp_golomb.Goals as goal
 
 pub eg_rest-requires : goal.eg_rest-requires
 eg_rest-requires c =
-    let a = c.args in
-    (
+    let a = c.args in (
       c.eg_count-n.ensures.upto,
       c.requires.0,
       base_reached a.k a.v 31 c.eg_count-n.result c.eg_count-n.ensures,

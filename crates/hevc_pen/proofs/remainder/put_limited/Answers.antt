@@ -8,8 +8,7 @@ use Rattle.hevc_pen.proofs.remainder.put_limited.Goals as goal
 
 pub eg_rest-requires : goal.eg_rest-requires
 eg_rest-requires c =
-    let a = c.args in
-    (
+    let a = c.args in (
       omega (arith, c.eg_count-n.ensures.upto, c.requires.0),
       c.requires.2,
       base_reached a.k a.v (28 - a.t) c.eg_count-n.result c.eg_count-n.ensures,

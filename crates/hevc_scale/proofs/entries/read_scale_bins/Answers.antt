@@ -22,8 +22,7 @@ returns-then-n-ne0 c =
     bins_no a.bytes.now a.component c.component_refusal-n.result c.component_refusal-n.ensures c.if-n-ne0.true
 
 pub read_scale-r-requires : goal.read_scale-r-requires
-read_scale-r-requires c =
-    (
+read_scale-r-requires c = (
   (omega arith, zeros_packed context_count),
   component_passed c.args.component
       (sym c.if-n-ne0.false ∙ c.component_refusal-n.ensures),

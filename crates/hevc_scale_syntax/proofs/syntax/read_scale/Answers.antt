@@ -21,8 +21,7 @@ returns-then-v-eq0 c =
 
 pub context_bin-t-requires : goal.context_bin-t-requires
 context_bin-t-requires c =
-    let a = c.args in
-    (
+    let a = c.args in (
       ((value_read a.list a.bytes.now a.x a.contexts.now a.component c.prefix-s.result c.prefix-s.new.contexts c.prefix-s.ensures c.requires.0).ok _ _ c.in-Bin.is).reads,
       omega
           (arith, c.requires.1),
@@ -38,8 +37,7 @@ returns-in_default-t c =
 
 pub signed_of-requires : goal.signed_of-requires
 signed_of-requires c =
-    let a = c.args in
-    (
+    let a = c.args in (
       omega (arith, c.if-v-eq0.false),
       value_few a.list a.bytes.now a.x a.contexts.now a.component c.prefix-s.result
           c.prefix-s.new.contexts c.prefix-s.ensures c.in-Bin.v c.in-Bin.y c.in-Bin.is,

@@ -10,4 +10,3 @@ returns-in-3 c = width_three c.args.log2 c.in-3.is
 
 pub returns-in-4 : goal.returns-in-4
 returns-in-4 c = width_four c.args.log2 c.in-4.is
-

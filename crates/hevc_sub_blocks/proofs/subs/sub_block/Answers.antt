@@ -28,8 +28,7 @@ neighbours_of-neighbours-requires c =
 
 pub returns-in_default : goal.returns-in_default
 returns-in_default c =
-    let a = c.args in
-    (
+    let a = c.args in (
       c.requires.5,
       c.requires.6,
       c.requires.8,
@@ -40,8 +39,7 @@ returns-in_default c =
 
 pub returns-then-flag-eq0 : goal.returns-then-flag-eq0
 returns-then-flag-eq0 c =
-    let a = c.args in
-    (
+    let a = c.args in (
       c.requires.5,
       c.requires.6,
       c.requires.8,
@@ -83,8 +81,7 @@ sig_numbers-requires c =
 pub significance-r-requires : goal.significance-r-requires
 significance-r-requires c =
     let a = c.args in
-    let s = c.requires.4 in
-    (
+    let s = c.requires.4 in (
       flag_reads a.p a.h a.last a.lastin a.i a.xs a.ys c.requires.10 a.list a.bytes.now a.c a.coded.now a.block.now a.stats.now a.x a.contexts.now a.w c.requires.3
           c.neighbours_of-neighbours.result c.neighbours_of-neighbours.ensures c.is_middle-middle.result c.is_middle-middle.ensures c.flag_number.result c.flag_number.ensures.0 c.coded_flag-f.result c.coded_flag-f.new.contexts c.coded_flag-f.ensures _ _ c.in-Bin.is c.requires.0,
       c.requires.1,
@@ -96,8 +93,7 @@ significance-r-requires c =
 pub returns-in_default-r : goal.returns-in_default-r
 returns-in_default-r c =
     let a = c.args in
-    let o = c.if-flag-eq0.false in
-    (
+    let o = c.if-flag-eq0.false in (
       marked_length a.coded.now (a.ys * a.w + a.xs) _ c.requires.5,
       c.requires.6,
       c.requires.8,
@@ -109,8 +105,7 @@ returns-in_default-r c =
 pub returns-then-s-eq0 : goal.returns-then-s-eq0
 returns-then-s-eq0 c =
     let a = c.args in
-    let o = c.if-flag-eq0.false in
-    (
+    let o = c.if-flag-eq0.false in (
       marked_length a.coded.now (a.ys * a.w + a.xs) _ c.requires.5,
       c.requires.6,
       c.requires.8,
@@ -149,8 +144,7 @@ pub returns : goal.returns
 returns c =
     let a = c.args in
     let o = c.if-flag-eq0.false in
-    let z = c.if-s-eq0.false in
-    (
+    let z = c.if-s-eq0.false in (
       marked_length a.coded.now (a.ys * a.w + a.xs) _ c.requires.5,
       c.coeffs.ensures.0,
       c.coeffs.ensures.1,

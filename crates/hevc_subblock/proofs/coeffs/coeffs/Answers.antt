@@ -84,12 +84,11 @@ pub returns-in_default : goal.returns-in_default
 returns-in_default c = (c.requires.4, c.requires.6, (at-bins c).no _ _ c.in_default.is c.greaters_refusal.ensures, tt)
 
 pub flag_if-f-requires : goal.flag_if-f-requires
-flag_if-f-requires c =
-    (
-      (((at-bins c).ok _ _ c.in-Got.is).2 any_levels []).reads,
-      number_few c.args.p.luma c.args.ctxset c.greater2_number.result c.greater2_number.ensures c.requires.7,
-      c.requires.1,
-    )
+flag_if-f-requires c = (
+  (((at-bins c).ok _ _ c.in-Got.is).2 any_levels []).reads,
+  number_few c.args.p.luma c.args.ctxset c.greater2_number.result c.greater2_number.ensures c.requires.7,
+  c.requires.1,
+)
 
 pub returns-in_default-f : goal.returns-in_default-f
 returns-in_default-f c = (c.requires.4, c.requires.6, (at-two c).no _ _ c.in_default-f.is c.refusal_of.ensures, tt)
@@ -119,8 +118,7 @@ bounds-stats-sb c =
 
 pub read_levels-l-requires : goal.read_levels-l-requires
 read_levels-l-requires c =
-    let a = c.args in
-    (
+    let a = c.args in (
       ((at-signs c).ok _ _ c.in-Bin-b.is any_levels []).reads.0,
       c.requires.2,
       c.requires.3,

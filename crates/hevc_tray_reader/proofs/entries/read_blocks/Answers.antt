@@ -7,7 +7,7 @@ use native.Mathlib.Omega.{arith}
 use lib.ListN.{length, set, take, drop}
 use Rattle.hevc_residual.specs.declared.params.Params.{Params}
 use Rattle.hevc_residual.specs.Wanted.{area}
-use Rattle.hevc_tray.specs.TrayCode.{Walking, walk_begins, walk_ends, next_accepted, next_room, next_checks, walk_refused, walk_on, read_number}
+use Rattle.hevc_tray.proofs.TrayCode.{Walking, walk_begins, walk_ends, next_accepted, next_room, next_checks, walk_refused, walk_on, read_number}
 use Rattle.hevc_tray_reader.proofs.entries.read_blocks.Goals as goal
 
 pub decision_table-table-requires : goal.decision_table-table-requires
@@ -67,15 +67,14 @@ slice_bounds-read_checked-end c =
     h
 
 pub read_checked-r-requires : goal.read_checked-r-requires
-read_checked-r-requires c =
-    (
-      c.decision_table-table.ensures,
-      next_checks c.args.bytes.now c.args.e c.args.contexts.now c.args.stats.now c.args.records.now
-          c.args.levels.now c.args.found.now c.loop-i.i c.loop-i.at c.loop-i.state c.loop-i.contexts c.loop-i.stats c.loop-i.levels c.loop-i.found c.loop-i.invariant (omega arith)
-          c.params_of-p.result c.params_of-p.ensures (c.loop-i.at + c.area_of.result - c.loop-i.at)
-          ((let z : c.loop-i.at + c.area_of.result - c.loop-i.at ≡ c.area_of.result = omega arith in z) ∙
-          (c.area_of.ensures ∙ ap (λ (z : Params). area z) c.params_of-p.ensures)),
-    )
+read_checked-r-requires c = (
+  c.decision_table-table.ensures,
+  next_checks c.args.bytes.now c.args.e c.args.contexts.now c.args.stats.now c.args.records.now
+      c.args.levels.now c.args.found.now c.loop-i.i c.loop-i.at c.loop-i.state c.loop-i.contexts c.loop-i.stats c.loop-i.levels c.loop-i.found c.loop-i.invariant (omega arith)
+      c.params_of-p.result c.params_of-p.ensures (c.loop-i.at + c.area_of.result - c.loop-i.at)
+      ((let z : c.loop-i.at + c.area_of.result - c.loop-i.at ≡ c.area_of.result = omega arith in z) ∙
+      (c.area_of.ensures ∙ ap (λ (z : Params). area z) c.params_of-p.ensures)),
+)
 
 pub read_refusal-requires : goal.read_refusal-requires
 read_refusal-requires c = tt

@@ -1,6 +1,6 @@
 use Prim.Native.Nat.{◌-◌}
 use lib.ListN.{length}
-use Rattle.hevc_tray.specs.TrayCode.{Walking}
+use Rattle.hevc_tray.proofs.TrayCode.{Walking}
 use Rattle.hevc_tray_reader.proofs.entries.read_blocks.Given as goal
 
 -- `read_blocks` meets its contract: behind i blocks, what is left to do gives what the whole does. Assumes nothing.

@@ -1,4 +1,4 @@
-use Rattle.hevc_tray.specs.TrayCode.{rows_none, rows_refused}
+use Rattle.hevc_tray.proofs.TrayCode.{rows_none, rows_refused}
 use Rattle.hevc_tray_reader.proofs.entries.read_tray.Goals as goal
 
 pub returns-then-records-eq0 : goal.returns-then-records-eq0

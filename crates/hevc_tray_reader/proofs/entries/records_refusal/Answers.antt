@@ -3,7 +3,7 @@ use Prim.Native.Nat.{◌-◌, ◌≤◌, ◌+◌}
 use mathlib.Core.Path.{refl}
 use native.Mathlib.Omega.{arith}
 use lib.ListN.{length}
-use Rattle.hevc_tray.specs.ChecksCode.{records_on, records_bad, records_fine, records_end}
+use Rattle.hevc_tray.proofs.ChecksCode.{records_on, records_bad, records_fine, records_end}
 use Rattle.hevc_tray_reader.proofs.entries.records_refusal.Goals as goal
 
 pub loop-i-init : goal.loop-i-init

@@ -1,6 +1,6 @@
 use mathlib.Core.Path.{sym, ◌∙◌}
 use Rattle.cabac.specs.NumberLaws.{payload_passed, ended_is, ended_not}
-use Rattle.hevc_tray.specs.ChecksCode.{tray_one, tray_two, tray_three, tray_four, tray_five, tray_six, tray_seven, tray_eight, tray_nine}
+use Rattle.hevc_tray.proofs.ChecksCode.{tray_one, tray_two, tray_three, tray_four, tray_five, tray_six, tray_seven, tray_eight, tray_nine}
 use Rattle.hevc_tray_reader.proofs.entries.tray_checks.Goals as goal
 
 pub returns-then-a-ne0 : goal.returns-then-a-ne0

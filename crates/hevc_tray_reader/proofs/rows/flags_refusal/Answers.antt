@@ -1,4 +1,4 @@
-use Rattle.hevc_tray.specs.ChecksCode.{flags_fine, flags_bad}
+use Rattle.hevc_tray.proofs.ChecksCode.{flags_fine, flags_bad}
 use Rattle.hevc_tray_reader.proofs.rows.flags_refusal.Goals as goal
 
 pub returns-then-above_refusal-eq0 : goal.returns-then-above_refusal-eq0

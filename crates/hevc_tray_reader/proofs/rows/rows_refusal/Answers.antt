@@ -1,7 +1,7 @@
 use Prim.Native.Nat.{◌-◌}
 use mathlib.Core.Path.{refl}
 use native.Mathlib.Omega.{arith}
-use Rattle.hevc_tray.specs.ChecksCode.{rows_on, rows_bad, rows_end}
+use Rattle.hevc_tray.proofs.ChecksCode.{rows_on, rows_bad, rows_end}
 use Rattle.hevc_tray_reader.proofs.rows.rows_refusal.Goals as goal
 
 pub loop-i-init : goal.loop-i-init

@@ -19,8 +19,7 @@ place_in-requires c = (c.requires.0, c.corner_at-c.ensures.0, omega arith)
 
 pub returns-then-s-gt0 : goal.returns-then-s-gt0
 returns-then-s-gt0 c =
-    let a = c.args in
-    (
+    let a = c.args in (
       looking_found a.p a.block.now c.loop-i.i c.loop-i.invariant (omega arith) c.corner_at-c.result.xs c.corner_at-c.result.ys c.corner_at-c.ensures.1 c.places_at-s.result.packed
           c.places_at-s.result.count c.places_at-s.ensures.1 (omega arith) c.place_in.result c.place_in.ensures.0,
       c.place_in.ensures.1,

@@ -12,12 +12,5 @@ use Rattle.hevc_wanted.proofs.sub.sum_of.Goals as goal
 pub loop-k-init : goal.loop-k-init
 loop-k-init c = summed_begins _
 
-pub loop-k-preserved : goal.loop-k-preserved
-loop-k-preserved c =
-    let l = c.args.levels.now in
-    let f : SFits w32 (get_or l c.loop-k.k (pos 0)) = record { sfits = c.magnitude-arg-1.given } in
-    summed_on l c.loop-k.sum c.loop-k.k c.magnitude.result c.loop-k.invariant (omega arith) (c.magnitude.ensures ∙ ap nat_abs (to_z-of_z f))
-    (omega (arith, c.magnitude.type-inv))
-
 pub returns : goal.returns
 returns c = summed_ends _ c.loop-k.sum c.loop-k.k c.loop-k.invariant (omega arith)

@@ -5,7 +5,7 @@ use Rattle.hevc_write_refusal.specs.RefusalLaws.{nothing_hidden, agreeing_begins
 use Rattle.hevc_write_refusal.proofs.refusal.any_disagrees.Goals as goal
 
 pub returns-then-not-p : goal.returns-then-not-p
-returns-then-not-p c = let a = c.args in λ w g. nothing_hidden a.p w _ _ (not-true a.p.hiding c.if-not-p.true)
+returns-then-not-p c = let a = c.args in λ w g. nothing_hidden a.p w _ _ c.if-not-p.true
 
 pub inner_order-order-requires : goal.inner_order-order-requires
 inner_order-order-requires c = c.requires.0.scan
@@ -20,14 +20,13 @@ pub loop-i-init : goal.loop-i-init
 loop-i-init c = let a = c.args in agreeing_begins a.p a.h a.block.now
 
 pub disagrees_at-requires : goal.disagrees_at-requires
-disagrees_at-requires c =
-    (
-      c.inner_order-order.ensures,
-      c.outer_order-outer.ensures,
-      c.requires.0,
-      c.requires.1,
-      omega (arith, c.loop-i-test.true, c.grid-n.ensures.0),
-    )
+disagrees_at-requires c = (
+  c.inner_order-order.ensures,
+  c.outer_order-outer.ensures,
+  c.requires.0,
+  c.requires.1,
+  omega (arith, c.loop-i-test.true, c.grid-n.ensures.0),
+)
 
 pub returns-then-disagrees_at : goal.returns-then-disagrees_at
 returns-then-disagrees_at c =

@@ -62,7 +62,7 @@ returns-then-not-has_room c =
     let ok = sym c.write_refusal-b.ensures ∙ c.if-b-ne0.false in
     promised a.p a.stats.now a.block.now a.skip a.rdpcm a.room.now (listed.Refused 12) _ _
     (no_room a.p a.stats.now a.block.now a.skip a.rdpcm a.room.now pass (take c.area_of.result a.block.now) el ok _ c.has_room.ensures.0
-    c.has_room.result c.has_room.ensures.1 (not-true _ c.if-not-has_room.true))
+    c.has_room.result c.has_room.ensures.1 c.if-not-has_room.true)
 
 pub put_block-written-requires : goal.put_block-written-requires
 put_block-written-requires c =
@@ -83,4 +83,4 @@ returns c =
     let ok = sym c.write_refusal-b.ensures ∙ c.if-b-ne0.false in
     promised a.p a.stats.now a.block.now a.skip a.rdpcm a.room.now (listed.List c.put_block-written.result.at) _ _
     (all_written a.p a.stats.now a.block.now a.skip a.rdpcm a.room.now pass (take c.area_of.result a.block.now) el ok _ c.has_room.ensures.0
-    c.has_room.result c.has_room.ensures.1 (not-false _ c.if-not-has_room.false) _ _ c.put_block-written.result c.put_block-written.ensures)
+    c.has_room.result c.has_room.ensures.1 c.if-not-has_room.false _ _ c.put_block-written.result c.put_block-written.ensures)

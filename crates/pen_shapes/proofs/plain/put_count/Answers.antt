@@ -31,8 +31,7 @@ loop-g-smaller c = omega arith
 
 pub loop-g-preserved : goal.loop-g-preserved
 loop-g-preserved c =
-    let a = c.args in
-    (
+    let a = c.args in (
       subst (Ones (count_counter {B = ℕ} (first_then a.first a.later)) (count_putter (first_then a.first a.later)) a.n a.most
           (sheet a.room.now a.pen) (c.loop-g.g + 1)) (sym (c.put_bin-y.ensures ∙ ap (λ k. entered (tag k true) (sheet c.loop-g.room c.loop-g.y)) c.loop-g.invariant.1))
           (ones_more (count_counter {B = ℕ} (first_then a.first a.later)) (count_putter (first_then a.first a.later)) a.n a.most

@@ -18,14 +18,13 @@ pub loop-i-init : goal.loop-i-init
 loop-i-init c = let a = c.args in (omega arith, none_begins (is_off_in a.p a.block.now))
 
 pub off_at-requires : goal.off_at-requires
-off_at-requires c =
-    (
-      c.inner_order-order.ensures,
-      c.outer_order-outer.ensures,
-      c.requires.0,
-      c.requires.1,
-      omega (arith, c.loop-i-test.true, c.grid-n.ensures.0),
-    )
+off_at-requires c = (
+  c.inner_order-order.ensures,
+  c.outer_order-outer.ensures,
+  c.requires.0,
+  c.requires.1,
+  omega (arith, c.loop-i-test.true, c.grid-n.ensures.0),
+)
 
 pub returns-then-off_at : goal.returns-then-off_at
 returns-then-off_at c =

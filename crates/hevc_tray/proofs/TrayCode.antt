@@ -24,8 +24,8 @@ use Rattle.hevc_tray.specs.Rows.{params_of, records_of, rows_refusal, found_row,
 use Rattle.hevc_tray.specs.Tray.{Tray, behind, on_block, tray, records_refusal, count_refusal, rooms_refusal, tray_checks, TrayRead, laid, untouched, read_tray_by, read_tray, read_rows}
 use Rattle.hevc_tray.specs.Seen.{row_of, read_no, tray_seen}
 use Rattle.hevc_tray.specs.AbleLaws.{Able, able_checks, On, reads_on}
-use Rattle.hevc_tray.specs.TrayLaws.{ahead_by, ahead_none, ahead_more}
-use Rattle.hevc_tray.specs.Words.{Told, told}
+use Rattle.hevc_tray.proofs.TrayLaws.{ahead_by, ahead_none, ahead_more}
+use Rattle.hevc_tray.proofs.Words.{Told, told}
 
 -- ---- the definition behind its checks
 module _ (l : List ℕ) (e : Engine) (contexts stats : List ℕ) (rows : List (List ℕ)) (levels : List ℤ) (found : List (List ℕ)) where

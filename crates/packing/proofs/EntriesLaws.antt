@@ -6,8 +6,9 @@ use Rattle.bins.specs.Syn.{Syn, Out, run, by_list}
 use Rattle.cabac.specs.Numbers.{Answer, accepted, refused}
 use Rattle.trees.specs.Every.{Bounds, Each}
 use Rattle.packing.specs.Pack.{entries_of, packed, packed_from, payload_of}
-use Rattle.packing.specs.TreeLaws.{Lent}
-use Rattle.packing.specs.Packs.{entries_most, ReadsBack, packs}
+use Rattle.packing.proofs.TreeLaws.{Lent}
+use Rattle.packing.specs.Packs.{entries_most, ReadsBack}
+use Rattle.packing.proofs.PacksLaws.{packs}
 use Rattle.packing.specs.Entries.{BinsPacked, not_packed, payload_from, pack_into_by, pack_into, pack_list, pack_tree}
 
 never : {A X : Type 0} (m : ℕ) (a : A) → refused m ≡ accepted a → X

@@ -14,7 +14,7 @@ use Rattle.tables.specs.Bounds.{lps_bounds}
 use Rattle.tables.specs.Table.{eq_below}
 use Rattle.packing.specs.Pack.{Enc, begun, widened, encoded, bypass_enc, align_enc, flushed, Entry, of_context, of_bypass, of_align, entries_of, Writing, writing, favoured, ctx_after, packed_bin, packed_entry, packed, filled, payload_of, packed_from}
 use Rattle.packing.specs.FollowLaws.{Wide}
-use Rattle.packing.specs.TreeLaws.{entry_wide, packed_wide}
+use Rattle.packing.proofs.TreeLaws.{entry_wide, packed_wide}
 use Rattle.packing.specs.PayloadLaws.{begun_wide}
 use Rattle.packing.specs.PutBits.{Bits, no_bits, wrote, repeated, Steps, steps_begun, at, put_bit, one_more, renorm_once, renorm_for, renorm_e, step_decision, bypass_by, step_bypass, step_flush, Stepping, stepping, step_bin, step_entry, step_all}
 

@@ -1,0 +1,4 @@
+pub mod TrayLaws
+pub mod TrayCode
+pub mod ChecksCode
+pub mod Words

@@ -1,0 +1,4 @@
+pub mod TreeLaws
+pub mod PacksLaws
+pub mod PutBitsLaws
+pub mod EntriesLaws
