@@ -18,7 +18,7 @@ loop-i-smaller c = omega arith
 
 pub loop-i-preserved : goal.loop-i-preserved
 loop-i-preserved c =
-    let z : SFits w32 c.signed.result = record { sfits = c.signed.type-inv } in
+    let z : SFits w32 c.signed.result = record { sfits = c.signed.type_inv } in
     paired_again _ c.loop-i.i c.loop-i.fresh c.loop-i.invariant _ (to_z-of_z z ∙ c.signed.ensures) (omega arith)
 
 pub returns : goal.returns

@@ -120,17 +120,8 @@ overflow_add-chroma c = omega (arith, chroma_few c.args.p.luma c.in_chroma-chrom
 pub flag_if-f-requires : goal.flag_if-f-requires
 flag_if-f-requires c = (c.requires.0, omega (arith, chroma_few c.args.p.luma c.in_chroma-chroma.result c.in_chroma-chroma.ensures), c.requires.3)
 
-pub returns-in_default : goal.returns-in_default
-returns-in_default c = (at-skip c).no _ _ c.in_default.is c.refusal_of.ensures
-
-pub overflow_add-chroma-2 : goal.overflow_add-chroma-2
-overflow_add-chroma-2 c = omega (arith, few c)
-
 pub flag_if-g-requires : goal.flag_if-g-requires
 flag_if-g-requires c = (((at-skip c).ok _ _ c.in-Bin.is).reads, omega (arith, few c), c.requires.3)
-
-pub returns-in_default-g : goal.returns-in_default-g
-returns-in_default-g c = (at_flag c).no _ _ c.in_default-g.is c.refusal_of-in_default-g.ensures
 
 pub overflow_add-chroma-3 : goal.overflow_add-chroma-3
 overflow_add-chroma-3 c = omega (arith, few c)
@@ -138,26 +129,14 @@ overflow_add-chroma-3 c = omega (arith, few c)
 pub flag_if-h-requires : goal.flag_if-h-requires
 flag_if-h-requires c = (((at_flag c).ok _ _ c.in-Bin-g.is).reads, omega (arith, few c), c.requires.3)
 
-pub returns-in_default-h : goal.returns-in_default-h
-returns-in_default-h c = (at-dir c).no _ _ c.in_default-h.is c.refusal_of-in_default-h.ensures
-
 pub last_prefix-i-requires : goal.last_prefix-i-requires
 last_prefix-i-requires c = (((at-dir c).ok _ _ c.in-Bin-h.is).reads, (omega arith), c.requires.1, c.requires.2, c.requires.3)
-
-pub returns-in_default-i : goal.returns-in_default-i
-returns-in_default-i c = (at-group-x c).no _ _ c.in_default-i.is c.refusal_of-in_default-i.ensures
 
 pub last_prefix-j-requires : goal.last_prefix-j-requires
 last_prefix-j-requires c = (((at-group-x c).ok _ _ c.in-Bin-i.is).reads, omega arith, c.requires.1, c.requires.2, c.requires.3)
 
-pub returns-in_default-j : goal.returns-in_default-j
-returns-in_default-j c = (at-group-y c).no _ _ c.in_default-j.is c.refusal_of-in_default-j.ensures
-
 pub decode_bypass_bits_if_any-k-requires : goal.decode_bypass_bits_if_any-k-requires
 decode_bypass_bits_if_any-k-requires c = (((at-group-y c).ok _ _ c.in-Bin-j.is).reads.0, omega (arith, few-x c, c.suffix_bits.ensures))
-
-pub returns-in_default-k : goal.returns-in_default-k
-returns-in_default-k c = (at-suffix-x c).no _ _ c.in_default-k.is c.refusal_of-in_default-k.ensures
 
 pub decode_bypass_bits_if_any-l-requires : goal.decode_bypass_bits_if_any-l-requires
 decode_bypass_bits_if_any-l-requires c = (((at-suffix-x c).ok _ _ c.in-Bin-k.is).reads.0, omega (arith, few-y c, c.suffix_bits-2.ensures))
@@ -165,17 +144,11 @@ decode_bypass_bits_if_any-l-requires c = (((at-suffix-x c).ok _ _ c.in-Bin-k.is)
 pub returns-in_default-l : goal.returns-in_default-l
 returns-in_default-l c = (at-suffix-y c).no _ _ c.in_default-l.is c.refusal_of-in_default-l.ensures
 
-pub least-requires : goal.least-requires
-least-requires c = few-x c
-
 pub overflow_add-least : goal.overflow_add-least
 overflow_add-least c =
     let g = few-x c in
     let h = (at-group-y c).ok _ _ c.in-Bin-j.is in
     omega (arith, c.least.ensures, least_few _ g, suffix_few c.args.list c.args.bytes.now c.suffix_bits.result (gx6 c) c.in-Bin-j.x5 c.decode_bypass_bits_if_any-k.result h.reads.0 g c.suffix_bits.ensures c.decode_bypass_bits_if_any-k.ensures _ _ c.in-Bin-k.is)
-
-pub least-requires-2 : goal.least-requires-2
-least-requires-2 c = few-y c
 
 pub overflow_add-least-2 : goal.overflow_add-least-2
 overflow_add-least-2 c =

@@ -18,3 +18,9 @@ pub returns : goal.returns
 returns c =
     let a = c.args in
     taken_ends a.p (spot a.xs a.ys) a.block.now c.loop-k.levels c.loop-k.k c.loop-k.invariant (omega arith)
+
+pub loop-k-preserved : goal.loop-k-preserved
+loop-k-preserved c =
+    let a = c.args in
+    let f : SFits w32 c.level_at.result = record { sfits = c.level_at.type_inv } in
+    taken_more (level_in a.p (spot a.xs a.ys) a.block.now) c.loop-k.levels c.loop-k.k _ c.loop-k.invariant (omega arith) (to_z-of_z f ∙ c.level_at.ensures)

@@ -37,7 +37,7 @@ stroke_at-requires c =
 pub returns-then-c-area_of : goal.returns-then-c-area_of
 returns-then-c-area_of c =
     let a = c.args in
-    let z : SFits w32 c.stroke_at.result = record { sfits = c.stroke_at.type-inv } in
+    let z : SFits w32 c.stroke_at.result = record { sfits = c.stroke_at.type_inv } in
     suggested a.p a.levels.now (sym c.if-parameter_refusal-ne0.false ∙ c.parameter_refusal.ensures) _ c.first_taken-c.ensures (omega (arith, c.if-c-area_of.true, c.area_of.ensures)) _ _ _ refl refl (to_z-of_z z ∙ c.stroke_at.ensures)
 
 pub returns : goal.returns
