@@ -1,7 +1,7 @@
 /* Bulmegart for C: the arithmetic engine of H.265 (CABAC), the two readers of a residual block, the writer of bins, the scale of
  * cross-component prediction, and H.264's 4x4 block.
  *
- * Link target/archive/libbulmegart.a, which `tools/archive` proves and writes for the machine at hand (Linux on x86-64 or Arm); examples/read_block.c reads
+ * Link target/archive/libbulmegart.a, which `tools/archive` proves and writes (for Linux on any x86-64, or on Arm: tools/native_archive); examples/read_block.c reads
  * a block, examples/every_function.c calls each function. "Document 01" and "request (i)" and so on are the customer's papers: what they ask for is said
  * here. Nothing is allocated, nothing is kept between calls, so any thread may call any of them. At most 5 KB of stack are taken where nothing else is said.
  *

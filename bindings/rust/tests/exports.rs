@@ -220,13 +220,49 @@ fn hold(one: &Language, other: &Language) -> (usize, usize) {
     (one.functions.len(), same.pairs.len())
 }
 
+/// The folders of the crates' sources: the one of the exports, and the others.
+fn sources() -> (PathBuf, Vec<PathBuf>) {
+    let crates = Path::new(env!("CARGO_MANIFEST_DIR")).join("../../crates");
+    let mut folders: Vec<PathBuf> = fs::read_dir(&crates).unwrap().map(|folder| folder.unwrap().path().join("src")).collect();
+    folders.sort();
+    let exports = crates.join("bulmegart_c").join("src");
+    folders.retain(|folder| *folder != exports);
+    (exports, folders)
+}
+
+const EXPORTED: &str = "#[unsafe(no_mangle)] pub extern \"C\" fn ";
+
+/// Behind each `EXPORTED`: all that stands before the body, clauses too.
+fn heads(folders: &[PathBuf]) -> BTreeMap<String, String> {
+    let mut heads = BTreeMap::new();
+    for file in folders.iter().flat_map(|folder| files(folder, "rt")) {
+        let text = bare(&fs::read_to_string(file).unwrap());
+        for after in text.split(EXPORTED).skip(1) {
+            let head = after.split(" } { ").next().unwrap().to_string();
+            assert!(head.contains(" ensures "), "{head}");
+            assert!(heads.insert(head.split('(').next().unwrap().to_string(), head).is_none(), "twice");
+        }
+    }
+    heads
+}
+
+/// Each export has the parameters, the answer and the clauses of the library's function that it calls, word for word.
+#[test]
+fn exports_and_libraries() {
+    let (exports, libraries) = sources();
+    let exports = heads(&[exports]);
+    assert_eq!(exports, heads(&libraries));
+    assert!(exports.contains_key("bulmegart_residual_coding"));
+}
+
 #[test]
 fn rattle_header_and_crate() {
     let here = Path::new(env!("CARGO_MANIFEST_DIR"));
-    let crates = here.join("../../crates");
-    let mut folders: Vec<PathBuf> = fs::read_dir(&crates).unwrap().map(|folder| folder.unwrap().path().join("src")).collect();
-    folders.sort();
-    let rattle = of_sources(&folders, "rt", "#[no_mangle] pub extern \"C\" fn ");
+    let (exports, libraries) = sources();
+    let rattle = Language {
+        functions: of_sources(&[exports], "rt", EXPORTED).functions,
+        structs: of_sources(&libraries, "rt", EXPORTED).structs,
+    };
     let header = of_header();
     let rust = of_sources(&[here.join("src")], "rs", "pub fn bulmegart_");
     let rust = Language {

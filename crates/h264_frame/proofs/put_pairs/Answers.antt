@@ -3,6 +3,7 @@ use Prim.Native.Nat.{◌-◌}
 use mathlib.Core.Path.{refl, ◌∙◌}
 use mir.Syntax.{w32}
 use mir.Val.{SFits}
+use mir.Facts.{to_z-of_z}
 use Rattle.h264_frame.specs.FrameLaws.{paired_none, paired_again, paired_all}
 use Rattle.h264_frame.proofs.put_pairs.Goals as goal
 
@@ -17,7 +18,8 @@ loop-i-smaller c = omega arith
 
 pub loop-i-preserved : goal.loop-i-preserved
 loop-i-preserved c =
-    paired_again _ c.loop-i.i c.loop-i.fresh c.loop-i.invariant _ (c.signed.ensures) (omega arith)
+    let z : SFits w32 c.signed.result = record { sfits = c.signed.type_inv } in
+    paired_again _ c.loop-i.i c.loop-i.fresh c.loop-i.invariant _ (to_z-of_z z ∙ c.signed.ensures) (omega arith)
 
 pub returns : goal.returns
 returns c = paired_all _ _ _ c.loop-i.invariant (omega arith) (omega arith)

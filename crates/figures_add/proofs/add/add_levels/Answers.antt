@@ -1,3 +1,4 @@
+use mir.Facts.{to_z-of_z}
 use mir.Val.{SFits}
 use mir.Syntax.{w32}
 use lib.ListN.{get_or}
@@ -66,9 +67,10 @@ pub loop-i-preserved : goal.loop-i-preserved
 loop-i-preserved c =
     let a = c.args in
     let l = a.levels.now in
+    let f : SFits w32 (get_or l c.loop-i.i (pos 0)) = record { sfits = c.magnitude-arg-1.given } in
     adding_on l a.blocks.now a.sums.now a.greatests.now a.n c.loop-i.blocks c.loop-i.sums c.loop-i.greatests c.loop-i.i c.loop-i.invariant c.loop-i-test.true
     c.magnitude-m.result c.one_if.result c.wide.result c.capped32-b.result c.capped64-s.result c.larger-g.result
-    (c.magnitude-m.ensures) c.one_if.ensures c.wide.ensures.0 c.capped32-b.ensures
+    (c.magnitude-m.ensures ∙ ap nat_abs (to_z-of_z f)) c.one_if.ensures c.wide.ensures.0 c.capped32-b.ensures
     c.capped64-s.ensures c.larger-g.ensures
 
 pub returns : goal.returns

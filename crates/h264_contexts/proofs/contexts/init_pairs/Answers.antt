@@ -1,4 +1,5 @@
 use Rattle.h264_block.specs.Contexts.{within}
+use mir.Facts.{to_z-of_z}
 use mir.Val.{SFits}
 use mir.Syntax.{w32}
 use mathlib.Core.Bool.{true}
@@ -32,7 +33,7 @@ pub bounds-pairs-i-in-loop-i : goal.bounds-pairs-i-in-loop-i
 bounds-pairs-i-in-loop-i c = omega (arith, (pairs_passed c.args.pairs.now (sym c.if-refused-ne0.false ∙ c.pairs_refusal-refused.ensures)).0, c.loop-i-test.true)
 
 pub init-requires : goal.init-requires
-init-requires c = let l = c.args.pairs.now in let i = c.loop-i.i in let p = (pairs_passed c.args.pairs.now (sym c.if-refused-ne0.false ∙ c.pairs_refusal-refused.ensures)) in ((within_at l (2 * i) p.1 (omega (arith, p.0, c.loop-i-test.true))), (within_at l (2 * i + 1) p.1 (omega (arith, p.0, c.loop-i-test.true))))
+init-requires c = let l = c.args.pairs.now in let i = c.loop-i.i in let f : SFits w32 (get_or l (2 * i) (pos 0)) = record { sfits = c.init-arg-1.given } in let g : SFits w32 (get_or l (2 * i + 1) (pos 0)) = record { sfits = c.init-arg-in-loop-i-1.given } in let p = (pairs_passed c.args.pairs.now (sym c.if-refused-ne0.false ∙ c.pairs_refusal-refused.ensures)) in (subst (λ z. within z ≡ true) (sym (to_z-of_z f)) (within_at l (2 * i) p.1 (omega (arith, p.0, c.loop-i-test.true))), subst (λ z. within z ≡ true) (sym (to_z-of_z g)) (within_at l (2 * i + 1) p.1 (omega (arith, p.0, c.loop-i-test.true))))
 
 pub bounds-fresh-i : goal.bounds-fresh-i
 bounds-fresh-i c = omega (arith, c.loop-i-test.true)
@@ -44,7 +45,7 @@ pub loop-i-smaller : goal.loop-i-smaller
 loop-i-smaller c = omega (arith, c.loop-i-test.true)
 
 pub loop-i-preserved : goal.loop-i-preserved
-loop-i-preserved c = let l = c.args.pairs.now in let i = c.loop-i.i in inited_again l c.args.q i c.loop-i.fresh c.loop-i.invariant _ _ c.init.result refl refl c.loop-i-test.true c.init.ensures
+loop-i-preserved c = let l = c.args.pairs.now in let i = c.loop-i.i in let f : SFits w32 (get_or l (2 * i) (pos 0)) = record { sfits = c.init-arg-1.given } in let g : SFits w32 (get_or l (2 * i + 1) (pos 0)) = record { sfits = c.init-arg-in-loop-i-1.given } in inited_again l c.args.q i c.loop-i.fresh c.loop-i.invariant _ _ c.init.result (to_z-of_z f) (to_z-of_z g) c.loop-i-test.true c.init.ensures
 
 pub returns : goal.returns
 returns c = let a = c.args in let l = a.pairs.now in let pass = sym c.if-refused-ne0.false ∙ c.pairs_refusal-refused.ensures in (pass, after_passed a.contexts.now l a.q c.loop-i.fresh (inited_all l a.q c.loop-i.i c.loop-i.fresh c.loop-i.invariant (omega (arith, c.loop-i-test.false)) (pairs_passed l pass).0))

@@ -1,5 +1,6 @@
 use Rattle.h264_pen.specs.PlacePuts.{seek_begins, seek_on, seek_found, seek_none}
 use Rattle.h264_block.specs.Block.{level_at}
+use mir.Facts.{to_z-of_z}
 use mir.Val.{SFits}
 use mir.Syntax.{w32}
 use lib.ListN.{get_or}
@@ -25,13 +26,13 @@ pub magnitude-requires : goal.magnitude-requires
 magnitude-requires c = tt
 
 pub returns-then-magnitude-gt0 : goal.returns-then-magnitude-gt0
-returns-then-magnitude-gt0 c = let l = c.args.levels.now in let e : c.magnitude.result ≡ nat_abs (level_at l (c.loop-k.k - 1)) = c.magnitude.ensures in seek_found l c.loop-k.k c.loop-k.invariant c.loop-k-test.true (omega (arith, e, c.if-magnitude-gt0.true))
+returns-then-magnitude-gt0 c = let l = c.args.levels.now in let f : SFits w32 (get_or l (c.loop-k.k - 1) (pos 0)) = record { sfits = c.magnitude-arg-1.given } in let e : c.magnitude.result ≡ nat_abs (level_at l (c.loop-k.k - 1)) = c.magnitude.ensures ∙ ap nat_abs (to_z-of_z f) in seek_found l c.loop-k.k c.loop-k.invariant c.loop-k-test.true (omega (arith, e, c.if-magnitude-gt0.true))
 
 pub loop-k-smaller : goal.loop-k-smaller
 loop-k-smaller c = omega (arith, c.loop-k-test.true)
 
 pub loop-k-preserved : goal.loop-k-preserved
-loop-k-preserved c = let l = c.args.levels.now in let e : c.magnitude.result ≡ nat_abs (level_at l (c.loop-k.k - 1)) = c.magnitude.ensures in seek_on l c.loop-k.k c.loop-k.invariant c.loop-k-test.true (omega (arith, e, c.if-magnitude-gt0.false))
+loop-k-preserved c = let l = c.args.levels.now in let f : SFits w32 (get_or l (c.loop-k.k - 1) (pos 0)) = record { sfits = c.magnitude-arg-1.given } in let e : c.magnitude.result ≡ nat_abs (level_at l (c.loop-k.k - 1)) = c.magnitude.ensures ∙ ap nat_abs (to_z-of_z f) in seek_on l c.loop-k.k c.loop-k.invariant c.loop-k-test.true (omega (arith, e, c.if-magnitude-gt0.false))
 
 pub returns : goal.returns
 returns c = seek_none c.args.levels.now c.requires c.loop-k.k c.loop-k.invariant c.loop-k-test.false

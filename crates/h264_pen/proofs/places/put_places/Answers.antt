@@ -1,6 +1,7 @@
 use Rattle.h264_pen.specs.PlacePuts.{placing_begins, placing_on, placing_last, placing_ended}
 use Rattle.h264_block.specs.Block.{level_at}
 use Rattle.pen.specs.Sheet.{sheet}
+use mir.Facts.{to_z-of_z}
 use mir.Val.{SFits}
 use mir.Syntax.{w32}
 use lib.ListN.{get_or}
@@ -38,7 +39,8 @@ pub loop-k-preserved : goal.loop-k-preserved
 loop-k-preserved c =
     let a = c.args in
     let l = a.levels.now in
-    let e : c.magnitude.result ≡ nat_abs (level_at l c.loop-k.k) = c.magnitude.ensures in
+    let f : SFits w32 (get_or l c.loop-k.k (pos 0)) = record { sfits = c.magnitude-arg-1.given } in
+    let e : c.magnitude.result ≡ nat_abs (level_at l c.loop-k.k) = c.magnitude.ensures ∙ ap nat_abs (to_z-of_z f) in
     placing_on l a.last c.requires.1 (sheet a.room.now a.pen) c.loop-k.k (sheet c.loop-k.room c.loop-k.y) c.loop-k.invariant c.loop-k-test.true _ (sheet c.put_place-y.new.room c.put_place-y.result) (ap (ltb 0) e) c.room-1.given c.put_place-y.ensures
 
 pub put_bin-z-requires : goal.put_bin-z-requires

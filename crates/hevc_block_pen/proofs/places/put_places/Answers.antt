@@ -5,6 +5,7 @@ use lib.Dec.{ltb}
 use lib.ListN.{get_or}
 use mir.Syntax.{w32}
 use mir.Val.{SFits}
+use mir.Facts.{to_z-of_z}
 use Rattle.bins.specs.Engine.{bit_no}
 use Prim.Native.Nat.{◌-◌}
 use Rattle.hevc_places.specs.PlacesAgree.{number_at}
@@ -53,13 +54,14 @@ loop-k-smaller c = omega arith
 pub loop-k-preserved : goal.loop-k-preserved
 loop-k-preserved c =
     let a = c.args in
+    let f : SFits w32 (get_or a.levels.now (c.loop-k.k - 1) (pos 0)) = record { sfits = c.is_level-arg-1.given } in
     subst
     (Putting a.levels.now (number_at a.numbers) a.infer a.below a.met (sheet a.room.now a.pen) (c.loop-k.k - 1) c.appended-s.result)
     (sym c.put_bin-y.ensures)
     (putting_on a.levels.now (number_at a.numbers) a.infer a.below a.met (sheet a.room.now a.pen) c.loop-k.k
     c.loop-k.s (sheet c.loop-k.room c.loop-k.y) c.loop-k.invariant c.loop-k-test.true c.inferred.result c.inferred.ensures
     c.if-inferred.false c.number_at-number.result c.number_at-number.ensures c.is_level-b.result
-    (c.is_level-b.ensures.0) c.appended-s.result c.appended-s.ensures
+    (c.is_level-b.ensures.0 ∙ ap (λ v. bit_no (ltb 0 (nat_abs v))) (to_z-of_z f)) c.appended-s.result c.appended-s.ensures
     c.is_level-b.ensures.1)
 
 pub shape_of-room : goal.shape_of-room

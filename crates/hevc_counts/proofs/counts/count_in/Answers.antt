@@ -1,3 +1,4 @@
+use mir.Facts.{to_z-of_z}
 use mir.Val.{SFits}
 use mir.Syntax.{w32}
 use lib.ListN.{get_or}
@@ -40,7 +41,8 @@ pub loop-k-preserved : goal.loop-k-preserved
 loop-k-preserved c =
     let a = c.args in
     let l = a.levels.now in
-    counting_on a.log2 l a.s c.loop-k.count c.loop-k.sum c.loop-k.k c.cell-at.result c.magnitude-m.result c.one_if-count.result c.loop-k.invariant c.loop-k-test.true c.cell-at.ensures.0 (c.magnitude-m.ensures) (omega arith) c.one_if-count.ensures
+    let f : SFits w32 (get_or l c.cell-at.result (pos 0)) = record { sfits = c.magnitude-arg-1.given } in
+    counting_on a.log2 l a.s c.loop-k.count c.loop-k.sum c.loop-k.k c.cell-at.result c.magnitude-m.result c.one_if-count.result c.loop-k.invariant c.loop-k-test.true c.cell-at.ensures.0 (c.magnitude-m.ensures ∙ ap nat_abs (to_z-of_z f)) (omega arith) c.one_if-count.ensures
 
 pub returns : goal.returns
 returns c =

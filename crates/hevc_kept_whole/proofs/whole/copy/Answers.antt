@@ -1,4 +1,4 @@
-use Rattle.std.proofs.Common.{refl}
+use mir.Facts.{to_z-of_z}
 use Prim.Native.Nat.{◌-◌}
 use native.Mathlib.Omega.{arith}
 use Rattle.hevc_summary.specs.CodeLaws.{copy_begins, copy_on, copy_ends}
@@ -26,7 +26,7 @@ pub loop-i-smaller : goal.loop-i-smaller
 loop-i-smaller c = omega (arith, c.loop-i-test.true)
 
 pub loop-i-preserved : goal.loop-i-preserved
-loop-i-preserved c = let a = c.args in copy_on a.levels.now a.from.now a.n c.loop-i.levels c.loop-i.i c.loop-i.invariant c.loop-i-test.true _ refl
+loop-i-preserved c = let a = c.args in copy_on a.levels.now a.from.now a.n c.loop-i.levels c.loop-i.i c.loop-i.invariant c.loop-i-test.true _ (to_z-of_z (record { sfits = c.levels-1.given }))
 
 pub shape_of-levels : goal.shape_of-levels
 shape_of-levels c = c.loop-i.invariant.long

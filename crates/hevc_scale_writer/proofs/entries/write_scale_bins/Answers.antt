@@ -1,5 +1,6 @@
 use mathlib.Core.Path.{sym, ap, ◌∙◌}
 use lib.IntN.{nat_abs}
+use mir.Facts.{to_z-of_z}
 use Rattle.hevc_residual.specs.Wanted.{negative}
 use Rattle.hevc_residual.specs.declared.answers.Written.TheVariants as listed
 use Rattle.hevc_scale_writer.specs.WriteAgree.{value_of}
@@ -18,7 +19,7 @@ pub returns-then-v-eq5 : goal.returns-then-v-eq5
 returns-then-v-eq5 c =
     let a = c.args in
     let h = sym c.if-n-ne0.false ∙ c.component_refusal-n.ensures in
-    let y = value_says a.scale c.value-v.result (c.value-v.ensures) in
+    let y = value_says a.scale c.value-v.result (c.value-v.ensures ∙ ap (λ z. value_of (nat_abs z)) (to_z-of_z c.ranges.scale)) in
     promised a.component a.scale a.room.now (listed.Refused 4) a.room.now
     (refused_second a.component a.scale a.room.now h (y.0 c.if-v-eq5.true))
 
@@ -26,33 +27,33 @@ pub put_scale-counted-requires : goal.put_scale-counted-requires
 put_scale-counted-requires c =
     let a = c.args in
     let h = sym c.if-n-ne0.false ∙ c.component_refusal-n.ensures in
-    let y = value_says a.scale c.value-v.result (c.value-v.ensures) in
+    let y = value_says a.scale c.value-v.result (c.value-v.ensures ∙ ap (λ z. value_of (nat_abs z)) (to_z-of_z c.fits.scale)) in
     (component_passed a.component h, (y.1 c.if-v-eq5.false).0)
 
 pub returns-then-counted : goal.returns-then-counted
 returns-then-counted c =
     let a = c.args in
     let h = sym c.if-n-ne0.false ∙ c.component_refusal-n.ensures in
-    let y = value_says a.scale c.value-v.result (c.value-v.ensures) in
+    let y = value_says a.scale c.value-v.result (c.value-v.ensures ∙ ap (λ z. value_of (nat_abs z)) (to_z-of_z c.fits.scale)) in
     let u = y.1 c.if-v-eq5.false in
     promised a.component a.scale a.room.now (listed.Refused 12) c.put_scale-counted.new.room
     (no_room a.component a.scale a.room.now h u.2 c.put_scale-counted.new.room c.put_scale-counted.result
-    (c.put_scale-counted.ensures a.scale any u.1 (sym (c.is_negative-sign.ensures))) c.if-counted.true)
+    (c.put_scale-counted.ensures a.scale any u.1 (sym (c.is_negative-sign.ensures ∙ ap negative (to_z-of_z c.fits.scale)))) c.if-counted.true)
 
 pub put_scale-written-requires : goal.put_scale-written-requires
 put_scale-written-requires c =
     let a = c.args in
     let h = sym c.if-n-ne0.false ∙ c.component_refusal-n.ensures in
-    let y = value_says a.scale c.value-v.result (c.value-v.ensures) in
+    let y = value_says a.scale c.value-v.result (c.value-v.ensures ∙ ap (λ z. value_of (nat_abs z)) (to_z-of_z c.fits.scale)) in
     (component_passed a.component h, (y.1 c.if-v-eq5.false).0)
 
 pub returns : goal.returns
 returns c =
     let a = c.args in
     let h = sym c.if-n-ne0.false ∙ c.component_refusal-n.ensures in
-    let y = value_says a.scale c.value-v.result (c.value-v.ensures) in
+    let y = value_says a.scale c.value-v.result (c.value-v.ensures ∙ ap (λ z. value_of (nat_abs z)) (to_z-of_z c.fits.scale)) in
     let u = y.1 c.if-v-eq5.false in
     promised a.component a.scale a.room.now (listed.List c.put_scale-written.result.at) c.put_scale-written.new.room
     (all_written a.component a.scale a.room.now h u.2 c.put_scale-counted.new.room c.put_scale-counted.result
-    (c.put_scale-counted.ensures a.scale any u.1 (sym (c.is_negative-sign.ensures))) c.if-counted.false c.put_scale-written.new.room c.put_scale-written.result
-    (c.put_scale-written.ensures a.scale any u.1 (sym (c.is_negative-sign.ensures))))
+    (c.put_scale-counted.ensures a.scale any u.1 (sym (c.is_negative-sign.ensures ∙ ap negative (to_z-of_z c.fits.scale)))) c.if-counted.false c.put_scale-written.new.room c.put_scale-written.result
+    (c.put_scale-written.ensures a.scale any u.1 (sym (c.is_negative-sign.ensures ∙ ap negative (to_z-of_z c.fits.scale)))))

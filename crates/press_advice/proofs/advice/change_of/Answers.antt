@@ -2,6 +2,7 @@ use native.Mathlib.Omega.{arith}
 use mathlib.Core.Path.{sym, refl, ◌∙◌}
 use mir.Syntax.{w32}
 use mir.Val.{SFits}
+use mir.Facts.{to_z-of_z}
 use Rattle.press_strokes.specs.StrokeLaws.{area_few, taken_least, taken_most}
 use Rattle.press_advice.specs.AdviceLaws.{passed, wide, suggested, nothing_taken}
 use Rattle.press_advice.proofs.advice.change_of.Goals as goal
@@ -36,7 +37,8 @@ stroke_at-requires c =
 pub returns-then-c-area_of : goal.returns-then-c-area_of
 returns-then-c-area_of c =
     let a = c.args in
-    suggested a.p a.levels.now (sym c.if-parameter_refusal-ne0.false ∙ c.parameter_refusal.ensures) _ c.first_taken-c.ensures (omega (arith, c.if-c-area_of.true, c.area_of.ensures)) _ _ _ refl refl (c.stroke_at.ensures)
+    let z : SFits w32 c.stroke_at.result = record { sfits = c.stroke_at.type_inv } in
+    suggested a.p a.levels.now (sym c.if-parameter_refusal-ne0.false ∙ c.parameter_refusal.ensures) _ c.first_taken-c.ensures (omega (arith, c.if-c-area_of.true, c.area_of.ensures)) _ _ _ refl refl (to_z-of_z z ∙ c.stroke_at.ensures)
 
 pub returns : goal.returns
 returns c =
