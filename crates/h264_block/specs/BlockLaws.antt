@@ -1,5 +1,5 @@
 -- The whole block, exact; and write_refusal gives 0 exactly for what can be written. Assumes nothing.
-use Rattle.std.specs.Prelude.{ℕ, zero, suc, ◌^◌, ◌≤◌, ◌<◌, ◌≡◌, refl, Bool, cond, ltb, ℤ, pos, nat_abs, replicate}
+use Rattle.std.specs.Prelude.{ℕ, ◌≤◌, ◌<◌, ◌≡◌, refl, Bool, cond, ltb, ℤ, pos, nat_abs, replicate}
 use Rattle.std.proofs.Common.{sym, ap, ◌∙◌, arith, ext_get_or}
 use Rattle.std.proofs.Math.Path.{subst}
 use Rattle.std.proofs.Math.Bool.{true, false}
@@ -7,14 +7,14 @@ use mathlib.Core.List.{List, [], ◌∷◌}
 use Rattle.std.proofs.Math.ListN.{length, get_or, length-replicate, get_or-replicate}
 use borrow.Author.Tests.{ltb-true, lt-ltb}
 use Rattle.trees.specs.Levels.{negative, in_range, down_from, all_zero, too_far}
-use Rattle.trees.specs.TreeLaws.{Writes, writes_done, writes_bind, writes_as, Exact, exact_done, exact_bind, exact_as}
+use Rattle.trees.specs.TreeLaws.{Writes, writes_bind, writes_as, Exact, exact_bind, exact_as}
 use Rattle.trees.specs.GoesLaws.{Goes, goes_of}
 use Rattle.trees.specs.ReaderLaws.{clash}
 use Rattle.trees.specs.ListLaws.{All, all_map, Falling, down_falling, falling_below, down_all, down_at, falling_is, not_zero}
 use Rattle.trees.specs.LevelLaws.{Kept, Apart, zero_ranged, zero_false, false_zero, far_false, false_far}
-use Rattle.h264_block.specs.Block.{level_at, is_sig, sig_places, first_of, places_s, levels_s, block}
+use Rattle.h264_block.specs.Block.{level_at, is_sig, sig_places, block}
 use Rattle.h264_block.specs.Refusal.{write_refusal}
-use Rattle.h264_block.specs.PlaceLaws.{Last, places_writes, Met, places_exact}
+use Rattle.h264_block.specs.PlaceLaws.{Last, places_writes, places_exact}
 use Rattle.h264_block.specs.LevelLaws.{Fine, Got, levels_writes, levels_exact}
 
 -- ---- what can be written: 16 levels, of which one is not zero, each in range

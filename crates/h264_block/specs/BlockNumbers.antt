@@ -4,7 +4,7 @@ use Rattle.std.proofs.Math.Path.{refl, ap}
 use Rattle.std.proofs.Common.{sym, subst, ◌∙◌, arith}
 use Rattle.bins.specs.declared.state.Engine.{Engine}
 use Rattle.bins.specs.Syn.{Out, Reading, Written, run, by_engine, by_list, write}
-use Rattle.cabac.specs.Numbers.{Answer, refused, ◌or_else◌, payload_refusal, state_refusal, ended_refusal}
+use Rattle.cabac.specs.Numbers.{refused, ◌or_else◌, payload_refusal, state_refusal, ended_refusal}
 use Rattle.trees.specs.Levels.{all_zero, too_far}
 use Rattle.trees.specs.Lent.{contexts_refusal, room_refusal}
 use Rattle.trees.specs.Among.{among, differ, same, Gives, gives_cond, gives_or, gives_payload, gives_state, gives_contexts, gives_ended, given}

@@ -1,6 +1,6 @@
 -- Demand 3 for H.264's block: the writer writes the one list that reads as the levels it is handed. "Apart from lack of room it refuses exactly when no
 -- bin list of any length reads as those. It reports no room exactly when such a list exists and none fits the lent room." And the way round. Assumes nothing.
-use Rattle.std.specs.Prelude.{ℕ, zero, suc, ◌≤◌, ◌<◌, ◌≡◌, refl, List, [], ◌++◌, Bool, true, false, ltb, ℤ, length, take, drop}
+use Rattle.std.specs.Prelude.{ℕ, zero, suc, ◌≤◌, ◌≡◌, refl, List, [], ◌++◌, Bool, true, false, ltb, ℤ, length, take, drop}
 use Rattle.std.proofs.Common.{sym, ap, ◌∙◌, append-nil, arith, length-append, take_at, length-take-le, ltb-true, ltb-false}
 use Rattle.bins.specs.Syn.{Out, Written, run, by_list, write}
 use Rattle.bins.specs.WriteLaws.{written_read}
@@ -10,7 +10,7 @@ use Rattle.trees.specs.Outcome.{Exactly, Outcome, fits, over, none, number_ok, e
 use Rattle.h264_block.specs.Block.{block}
 use Rattle.h264_block.specs.Refusal.{write_refusal}
 use Rattle.h264_block.specs.Entries.{block_refusal, block_with, BinsRead, read_bins, wanted_from, BinsWritten, write_bins}
-use Rattle.h264_block.specs.BlockLaws.{Writable, block_writes, block_exact, refusal_none, none_refusal, refusal_below}
+use Rattle.h264_block.specs.BlockLaws.{block_writes, block_exact, refusal_none, none_refusal, refusal_below}
 use Rattle.h264_block.specs.EntryLaws.{block_passed, block_passes, writes_refused, writes_fits, writes_over, writes_passed, reads_whole, reads_passed}
 
 -- the list l is read, to its last bin, by the syntax, and as exactly the levels w

@@ -1,17 +1,16 @@
 -- Magnitudes and levels, exact. Assumes nothing.
-use Prim.Native.Nat.{ℕ, zero, suc, ◌+◌, ◌-◌, ◌^◌, ◌≤◌, ◌<◌}
-use Rattle.std.specs.Prelude.{◌≡◌, refl, Bool, true, false, cond, leb, ltb, ℤ, pos, length, get_or, set}
+use Prim.Native.Nat.{ℕ, suc, ◌-◌, ◌^◌, ◌≤◌, ◌<◌}
+use Rattle.std.specs.Prelude.{◌≡◌, Bool, true, false, ltb, ℤ, pos, length, get_or, set}
 use Rattle.std.proofs.Math.Path.{sym, ap}
-use Rattle.std.proofs.Common.{subst, ◌∙◌}
+use Rattle.std.proofs.Common.{◌∙◌}
 use mathlib.Core.List.{List, [], ◌∷◌}
 use native.Mathlib.Omega.{arith}
 use Rattle.std.proofs.Math.IntN.{nat_abs}
 use Rattle.std.proofs.Math.ListN.{length-set}
 use borrow.Author.Tests.{ltb-true, ltb-false, leb-true}
 use Rattle.trees.specs.Levels.{negative, signed, in_range}
-use Rattle.trees.specs.Shapes.{eg_base}
 use Rattle.trees.specs.TreeLaws.{Writes, writes_done, writes_bypass, writes_bind, writes_as, Exact, exact_done, exact_stop, exact_bypass, exact_bind, exact_as}
-use Rattle.trees.specs.ReaderLaws.{clash, writes_if, exact_if, Rising, Group}
+use Rattle.trees.specs.ReaderLaws.{clash, writes_if, exact_if, Rising}
 use Rattle.trees.specs.ShapeLaws.{count_writes, count_exact, golomb_writes, golomb_exact}
 use Rattle.trees.specs.ListLaws.{All, Falling}
 use Rattle.trees.specs.LevelLaws.{signed_of, signed_is, Kept, kept_none, kept_set, kept_at}
