@@ -1,12 +1,12 @@
 -- What an answer of the code says of the trees of H.264's block, read from a bin list or a payload.
-use Rattle.std.specs.Prelude.{ℕ, zero, suc, ◌≤◌, ◌≡◌, Bool, false, cond, List, [], ◌∷◌, ltb, ℤ, get_or}
+use Rattle.std.specs.Prelude.{ℕ, zero, suc, ◌≤◌, ◌<◌, ◌≡◌, Bool, false, cond, List, [], ◌∷◌, ltb, ℤ, get_or, set}
 use Rattle.bins.specs.declared.state.Interval.{Interval}
 use Rattle.bins.specs.declared.state.Step.{Step}
 use Rattle.bins.specs.declared.state.Step.TheVariants as step
 use Rattle.bins.specs.Syn.{Out}
 use Rattle.bins.specs.Sources.{Cursor, cursor, refused_at}
 use Rattle.bins.specs.Laws.{RefusedBy}
-use Rattle.trees.specs.Levels.{down_from, greatest_of}
+use Rattle.trees.specs.Levels.{signed, down_from, greatest_of}
 use Rattle.trees.specs.Agree.{Reads, from}
 use Rattle.h264_block.specs.Block.{places_s, levels_s, block}
 use Rattle.h264_block.specs.Entries.{block_with, cleared}

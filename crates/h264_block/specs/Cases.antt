@@ -1,6 +1,6 @@
 -- Worked cases of H.264's block: one table, and one statement about the definitions. They have what real streams do not: the range's ends, a suffix prefix of 16
 -- ones, place 15 alone, each number and the order of two.
-use Rattle.std.specs.Prelude.{ℕ, ◌-◌, ◌≡◌, refl, List, [], ◌∷◌, ◌++◌, Bool, true, false, ◌&&◌, length, take, set, replicate, eqb, ℤ, pos, negsuc}
+use Rattle.std.specs.Prelude.{ℕ, zero, suc, ◌+◌, ◌-◌, ◌≡◌, refl, List, [], ◌∷◌, ◌++◌, Bool, true, false, not, ◌&&◌, length, take, drop, set, replicate, eqb, ℤ, pos, negsuc}
 use Rattle.bins.specs.Syn.{◌>>=◌, run, by_list, write}
 use Rattle.bins.specs.Readers.{bits_s, ones_s}
 use Rattle.cabac.specs.Numbers.{Answer, accepted, refused, ◌or_else◌}
@@ -12,7 +12,7 @@ use Rattle.h264_block.specs.Layout.{at_magnitude}
 use Rattle.h264_block.specs.Block.{block, places_s, magnitude_s, levels_s}
 use Rattle.h264_block.specs.Contexts.{raised, within, pre_raised, initial, all_within, pairs_refusal}
 use Rattle.h264_block.specs.Refusal.{write_refusal}
-use Rattle.h264_block.specs.Entries.{block_refusal, read_from_list, read_bins_by, read_bins, write_list_by, write_list, write_bins_by, write_bins}
+use Rattle.h264_block.specs.Entries.{block_refusal, BinsRead, read_from_list, read_bins_by, read_bins, BinsWritten, write_list_by, write_list, write_bins_by, write_bins}
 
 pub data Case : Type 0 where
   both_ways : List ℤ → List ℕ → Case  -- block, entries: written as them, read from them

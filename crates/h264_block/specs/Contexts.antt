@@ -1,5 +1,5 @@
 -- Contexts: what a pair m, n makes of one (H.264 9.3.1.1), by document 01's clipped formula.
-use Rattle.std.specs.Prelude.{ℕ, zero, suc, ◌+◌, ◌-◌, ◌*◌, ◌/◌, min, max, List, [], ◌∷◌, Bool, true, ◌&&◌, cond, length, ltb, eqb, ℤ, pos, negsuc}
+use Rattle.std.specs.Prelude.{ℕ, zero, suc, ◌+◌, ◌-◌, ◌*◌, ◌/◌, min, max, List, [], ◌∷◌, Bool, true, false, ◌&&◌, cond, length, leb, ltb, eqb, ℤ, pos, negsuc}
 use Rattle.cabac.specs.Contexts.{packed}
 use Rattle.h264_block.specs.Layout.{pair_count}
 

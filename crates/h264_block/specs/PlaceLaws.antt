@@ -2,16 +2,16 @@
 use Prim.Native.Nat.{ℕ, zero, suc, ◌+◌, ◌≤◌, ◌<◌}
 use Rattle.std.specs.Prelude.{◌≡◌, Bool, ◌||◌, cond, List, [], ◌∷◌, ℤ}
 use Rattle.std.proofs.Math.Path.{refl, sym, ap}
-use Rattle.std.proofs.Common.{◌∙◌}
+use Rattle.std.proofs.Common.{subst, ◌∙◌}
 use Rattle.std.proofs.Math.Bool.{true, false}
 use native.Mathlib.Omega.{arith}
 use Rattle.std.proofs.Math.Dec.{eqb}
 use borrow.Author.Tests.{eqb-true, eqb-false, eq-eqb, ne_eqb}
-use Rattle.bins.specs.Syn.{done, bin}
 use Rattle.trees.specs.Levels.{down_from}
 use Rattle.trees.specs.TreeLaws.{Writes, writes_done, writes_bin, Exact, exact_done, exact_bin, exact_as}
 use Rattle.trees.specs.ReaderLaws.{clash, writes_if}
 use Rattle.trees.specs.ListLaws.{Falling, falling_up, down_falling, down_first}
+use Rattle.bins.specs.Syn.{done, bin}
 use Rattle.h264_block.specs.Layout.{at_last}
 use Rattle.h264_block.specs.Block.{is_sig, sig_places, first_of, places_s}
 
@@ -103,8 +103,8 @@ module _ (w : List ℤ) where
   pub places_exact : (n k : ℕ) (ks : List ℕ) → k + n ≡ 15 → Falling k ks → Exact (places_s n k ks) w (Met k ks) (λ l. l ≡ sig_places w)
   unfolding places_s
   places_exact zero k ks e f = exact_done (ended k ks (omega arith) f)
-  places_exact (suc n) k ks e f = exact_bin (λ d. elim d as (λ x. Exact (elim x [ true ↦ bin (at_last k) (λ w'. eqb (first_of (sig_places w')) k) (λ e'. elim e' [ true ↦ done (k ∷ ks) | false ↦ places_s n (suc k) (k ∷ ks) ]) | false ↦ places_s n (suc k) ks ]) w (λ a. Met k ks a × (a ≡ sig_places w → is_sig w k ≡ x)) (λ l. l ≡ sig_places w)) [
-    | true ↦ exact_bin (λ c. elim c as (λ x. Exact (elim x [ true ↦ done (k ∷ ks) | false ↦ places_s n (suc k) (k ∷ ks) ]) w (λ a. (Met k ks a × (a ≡ sig_places w → is_sig w k ≡ true)) × (a ≡ sig_places w → eqb (first_of (sig_places w)) k ≡ x)) (λ l. l ≡ sig_places w)) [
+  places_exact (suc n) k ks e f = exact_bin (λ d. elim d as (λ x. Exact (elim x [ true ↦ bin (at_last k) (λ w. eqb (first_of (sig_places w)) k) (λ e. elim e [ true ↦ done (k ∷ ks) | false ↦ places_s n (suc k) (k ∷ ks) ]) | false ↦ places_s n (suc k) ks ]) w (λ l. Met k ks l × (l ≡ sig_places w → is_sig w k ≡ x)) (λ l. l ≡ sig_places w)) [
+    | true ↦ exact_bin (λ c. elim c as (λ x. Exact (elim x [ true ↦ done (k ∷ ks) | false ↦ places_s n (suc k) (k ∷ ks) ]) w (λ l. (Met k ks l × (l ≡ sig_places w → is_sig w k ≡ true)) × (l ≡ sig_places w → eqb (first_of (sig_places w)) k ≡ x)) (λ l. l ≡ sig_places w)) [
       | true ↦ exact_done (
         (ended k ks (omega arith) f, λ q. sig_is k (k ∷ ks) (omega arith) q ∙ has_first k ks),
         λ q. eq-eqb (first_of (sig_places w)) k (sym (ap first_of q)),
