@@ -40,13 +40,3 @@ loop-s-preserved c =
     let a = c.args in
     filling_on a.log2 a.levels.now a.counts.now a.sums.now c.subs_of-n.result c.loop-s.counts c.loop-s.sums c.loop-s.s c.loop-s.invariant c.loop-s-test.true c.count_in-t.result.count c.count_in-t.result.sum c.count_in-t.ensures.0 c.count_in-t.ensures.1 c.count_in-t.ensures.2
 
-pub whole_of-requires : goal.whole_of-requires
-whole_of-requires c =
-    let h = c.requires in
-    (h.0, h.1, omega (arith, c.whole_of-arg-2-1.given.0), omega (arith, c.whole_of-arg-4-1.given.0))
-
-pub returns : goal.returns
-returns c =
-    let a = c.args in
-    let e = filling_ends a.log2 a.levels.now a.counts.now a.sums.now c.subs_of-n.result c.loop-s.counts c.loop-s.sums c.loop-s.s c.loop-s.invariant c.loop-s-test.false in
-    (e.0, e.1, c.whole_of.ensures, e.2, omega (arith, c.whole_of-arg-2-1.given.0), omega (arith, c.whole_of-arg-4-1.given.0))
