@@ -2,14 +2,10 @@ pub mod Layout
 pub mod Contexts
 pub mod Block
 pub mod Refusal
+pub mod Writable
 pub mod Entries
 pub mod PlaceLaws
-pub mod LevelLaws
-pub mod BlockLaws
-pub mod BlockBounds
 pub mod EntryLaws
-pub mod BlockNumbers
-pub mod Exact
 pub mod Local
 pub mod Cases
 pub mod BlockAgree

@@ -11,6 +11,8 @@ use Rattle.trees.specs.Levels.{down_from}
 use Rattle.trees.specs.TreeLaws.{Writes, writes_done, writes_bin, Exact, exact_done, exact_bin, exact_as}
 use Rattle.trees.specs.ReaderLaws.{clash, writes_if}
 use Rattle.trees.specs.ListLaws.{Falling, falling_up, down_falling, down_first}
+use Rattle.bins.specs.Syn.{done, bin}
+use Rattle.h264_block.specs.Layout.{at_last}
 use Rattle.h264_block.specs.Block.{is_sig, sig_places, first_of, places_s}
 
 -- ---- whether a place is among places
@@ -101,8 +103,8 @@ module _ (w : List ℤ) where
   pub places_exact : (n k : ℕ) (ks : List ℕ) → k + n ≡ 15 → Falling k ks → Exact (places_s n k ks) w (Met k ks) (λ l. l ≡ sig_places w)
   unfolding places_s
   places_exact zero k ks e f = exact_done (ended k ks (omega arith) f)
-  places_exact (suc n) k ks e f = exact_bin (λ d. elim d [
-    | true ↦ exact_bin (λ c. elim c [
+  places_exact (suc n) k ks e f = exact_bin (λ d. elim d as (λ x. Exact (elim x [ true ↦ bin (at_last k) (λ w. eqb (first_of (sig_places w)) k) (λ e. elim e [ true ↦ done (k ∷ ks) | false ↦ places_s n (suc k) (k ∷ ks) ]) | false ↦ places_s n (suc k) ks ]) w (λ l. Met k ks l × (l ≡ sig_places w → is_sig w k ≡ x)) (λ l. l ≡ sig_places w)) [
+    | true ↦ exact_bin (λ c. elim c as (λ x. Exact (elim x [ true ↦ done (k ∷ ks) | false ↦ places_s n (suc k) (k ∷ ks) ]) w (λ l. (Met k ks l × (l ≡ sig_places w → is_sig w k ≡ true)) × (l ≡ sig_places w → eqb (first_of (sig_places w)) k ≡ x)) (λ l. l ≡ sig_places w)) [
       | true ↦ exact_done (
         (ended k ks (omega arith) f, λ q. sig_is k (k ∷ ks) (omega arith) q ∙ has_first k ks),
         λ q. eq-eqb (first_of (sig_places w)) k (sym (ap first_of q)),

@@ -18,7 +18,7 @@ use Rattle.tree_shapes.specs.Plain.{bypass_p}
 use Rattle.tree_shapes.specs.ShapeLaws.{run_done, bypass_says, bypass_then, bypass_then_no}
 use Rattle.trees.specs.Reached.{each_run}
 use Rattle.h264_block.specs.Block.{S, level_at, magnitude_s, levels_s}
-use Rattle.h264_block.specs.BlockBounds.{magnitude_each}
+use Rattle.h264_block.proofs.BlockBounds.{magnitude_each}
 use Rattle.h264_block.specs.BlockAgree.{marked, SaysLevel, SaysLevels}
 
 -- ---- the range

@@ -18,7 +18,7 @@ use Rattle.packing.proofs.PacksLaws.{closes}
 use Rattle.packing.specs.Entries.{pack_tree}
 use Rattle.packing.proofs.EntriesLaws.{accepts_is, tree_read_back}
 use Rattle.h264_block.specs.Block.{block}
-use Rattle.h264_block.specs.BlockBounds.{block_bounds, block_each}
+use Rattle.h264_block.proofs.BlockBounds.{block_bounds, block_each}
 use Rattle.h264_block.specs.EntryLaws.{block_passes}
 use Rattle.h264_block.specs.Entries.{block_refusal, block_with, read_by_engine, read_payload_by, read_payload, read_from_list, read_bins_by, read_bins}
 use Rattle.h264_packer.specs.Entries.{pack_bins}

@@ -12,7 +12,7 @@ use Rattle.trees.specs.Pick.{picked}
 use Rattle.pen.specs.Sheet.{Sheet, entered, Wrote}
 use Rattle.pen.specs.SheetLaws.{wrote_none, wrote_on, wrote_bypass, wrote_then}
 use Rattle.h264_block.specs.Block.{S, level_at, is_sig, sig_places, places_s, magnitude_s, levels_s, block}
-use Rattle.h264_block.specs.BlockLaws.{Writable}
+use Rattle.h264_block.specs.Writable.{Writable}
 
 ranged_most : (neg : Bool) (m : ℕ) → in_range 15 neg m ≡ true → m ≤ 32768
 ranged_most true m e = leb-true m 32768 e

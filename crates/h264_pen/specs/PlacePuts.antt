@@ -14,7 +14,7 @@ use Rattle.pen.specs.SheetLaws.{entered_long, wrote_none, wrote_on, wrote_bin}
 use Rattle.h264_block.specs.Layout.{at_significance, at_last}
 use Rattle.h264_block.specs.Block.{S, level_at, is_sig, sig_places, first_of, places_s}
 use Rattle.h264_block.specs.PlaceLaws.{Last}
-use Rattle.h264_block.specs.BlockLaws.{Writable}
+use Rattle.h264_block.specs.Writable.{Writable}
 
 -- ---- the last place: none above k has a level
 pub record Seeking (w : List ℤ) (k : ℕ) : Type 0 where

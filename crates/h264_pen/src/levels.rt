@@ -3,7 +3,7 @@ ghost use Rattle.std.specs.Prelude.{◌≡◌, true, cond, List, ◌∷◌, ℕ,
 ghost use Rattle.trees.specs.Levels.{negative, in_range};
 ghost use Rattle.pen.specs.Sheet.{sheet, Wrote};
 ghost use Rattle.h264_block.specs.Block.{level_at, levels_s};
-ghost use Rattle.h264_block.specs.BlockLaws.{Writable};
+ghost use Rattle.h264_block.specs.Writable.{Writable};
 ghost use Rattle.h264_pen.specs.LevelPuts.{LevelsPut, BlockPut};
 
 use crate::magnitude::put_magnitude;

@@ -4,7 +4,7 @@ ghost use Rattle.bins.specs.Syn.{done};
 ghost use Rattle.pen.specs.Sheet.{sheet, Wrote};
 ghost use Rattle.h264_block.specs.Block.{is_sig, sig_places, first_of, places_s};
 ghost use Rattle.h264_block.specs.PlaceLaws.{Last};
-ghost use Rattle.h264_block.specs.BlockLaws.{Writable};
+ghost use Rattle.h264_block.specs.Writable.{Writable};
 
 use level_sizes::sizes::magnitude;
 use pen::room::{Pen, put_bin};

@@ -17,7 +17,7 @@ use Rattle.trees.specs.Levels.{down_from, greatest_of}
 use Rattle.trees.specs.Agree.{Reads, from, reads_on}
 use Rattle.h264_block.specs.Block.{S, level_at, places_s, magnitude_s, levels_s, block}
 use Rattle.trees.specs.Reached.{each_run}
-use Rattle.h264_block.specs.BlockBounds.{block_each}
+use Rattle.h264_block.proofs.BlockBounds.{block_each}
 use Rattle.h264_block.specs.Entries.{block_with, cleared}
 use Rattle.h264_block.specs.BlockAgree.{marked, SaysPlaces, SaysLevels, SaysBlock, SaysInto}
 

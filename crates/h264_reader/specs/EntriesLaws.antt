@@ -30,7 +30,7 @@ use Rattle.trees.specs.Levels.{greatest_of}
 use Rattle.trees.specs.Lent.{contexts_refusal}
 use Rattle.trees.specs.Reached.{each_run}
 use Rattle.h264_block.specs.Block.{block}
-use Rattle.h264_block.specs.BlockBounds.{block_each}
+use Rattle.h264_block.proofs.BlockBounds.{block_each}
 use Rattle.h264_block.specs.EntryLaws.{block_passed}
 use Rattle.h264_block.specs.Entries.{PayloadRead, BinsRead, block_refusal, block_with, cleared, read_by_engine, read_payload_by, read_payload, read_from_list, read_bins_by, read_bins}
 use Rattle.h264_reader.specs.declared.entries.Read.TheVariants as read

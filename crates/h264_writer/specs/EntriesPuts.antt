@@ -9,9 +9,10 @@ use Rattle.pen.specs.RoomPuts.{pen_at, counted_same, counted_long, counted_short
 use Rattle.h264_block.specs.Block.{block}
 use Rattle.h264_block.specs.Refusal.{write_refusal}
 use Rattle.h264_block.specs.Entries.{BinsWritten, block_refusal, wanted_from, write_bins}
-use Rattle.h264_block.specs.BlockLaws.{Writable, refusal_none}
+use Rattle.h264_block.specs.Writable.{Writable, ReadsAs}
+use Rattle.h264_block.proofs.BlockLaws.{refusal_none}
 use Rattle.h264_block.specs.EntryLaws.{block_passes, writes_short, writes_refused, writes_fits, writes_over}
-use Rattle.h264_block.specs.Exact as exact
+use Rattle.h264_block.proofs.Exact as exact
 use Rattle.h264_writer.specs.declared.entries.Written as code
 use Rattle.h264_writer.specs.declared.entries.Written.TheVariants as listed
 use Rattle.h264_pen.specs.LevelPuts.{BlockPut}
@@ -50,7 +51,7 @@ module _ (lent : List ℤ) (room : List ℕ) where
       pub writable : Writable (wanted_from lent)
       writable = refusal_none (wanted_from lent) (length-take-le 16 lent long) ok
 
-      list : (l : List ℕ) × exact.ReadsAs l (wanted_from lent) × (write block (wanted_from lent) ≡ Written.ok (wanted_from lent) l)
+      list : (l : List ℕ) × ReadsAs l (wanted_from lent) × (write block (wanted_from lent) ≡ Written.ok (wanted_from lent) l)
       list = exact.written (wanted_from lent) (length-take-le 16 lent long) ok
 
       -- counted out

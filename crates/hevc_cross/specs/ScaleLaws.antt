@@ -135,7 +135,7 @@ prefix_any {B = B} {C = C} src base sh (suc n) g w v s =
     onward_any (src.on_bin (base + g / 2 ^ sh) s) s
     (λ d s'. run {B = B} src (elim d [ true ↦ prefix_s base sh n (suc g) w | false ↦ done g ]) s')
     (λ d s'. run {B = C} src (elim d [ true ↦ prefix_s base sh n (suc g) v | false ↦ done g ]) s')
-    (λ d s'. elim d as (λ x. run {B = B} src (elim x [ true ↦ prefix_s base sh n (suc g) w | false ↦ done g ]) s' ≡ run {B = C} src (elim x [ true ↦ prefix_s base sh n (suc g) v | false ↦ done g ]) s') [ true ↦ prefix_any src base sh n (suc g) w v s' | false ↦ refl ])
+    (λ d s'. elim d as (λ x. run src (elim x as (λ y. Syn B ℕ) [ true ↦ prefix_s base sh n (suc g) w | false ↦ done g ]) s' ≡ run src (elim x as (λ y. Syn C ℕ) [ true ↦ prefix_s base sh n (suc g) v | false ↦ done g ]) s') [ true ↦ prefix_any src base sh n (suc g) w v s' | false ↦ refl ])
 
 sign_any : {S B C : Type 0} (src : Source S) (c : ℕ) (w : B → ℤ) (v : C → ℤ) (a : ℕ) (s : S) → run src (sign_s w c a) s ≡ run src (sign_s v c a) s
 unfolding run

@@ -1,12 +1,11 @@
 -- Request (xii) at work, computed: pairs of payloads of which it speaks, by acceptance, by 8 and by 7; and a pair that shows why the first run must not
 -- draw past its end. 4x4 luma, scan 0, depth 8, every context 64, statistics 0.
-use Rattle.std.specs.Prelude.{ℕ, zero, suc, ◌≤◌, ◌<◌, ◌≡◌, refl, List, [], ◌∷◌, Bool, true, false, length, replicate, ℤ, pos}
-use Rattle.std.proofs.Common.{sym, ap, subst, ◌∙◌, arith}
+use Rattle.std.specs.Prelude.{ℕ, ◌<◌, ◌≡◌, refl, List, [], ◌∷◌, Bool, true, false, replicate, ℤ, pos}
 use Rattle.std.specs.Int.Count.{count_leading_zeros}
 use Rattle.tables.specs.Table.{eq_below}
 use Rattle.tables.specs.Tables.{range_tab_lps, trans_idx_mps, trans_idx_lps, lps_of, on_mps, on_lps}
 use Rattle.bins.specs.declared.state.Engine.{Engine}
-use Rattle.bins.specs.Bits.{bit_at, bits, ends}
+use Rattle.bins.specs.Bits.{bit_at, bits}
 use Rattle.bins.specs.Engine.{place, fetched, started, split_by, split, decided, bypassed, range_aligned}
 use Rattle.bins.specs.Syn.{◌>>=◌, run, by_engine}
 use Rattle.bins.specs.Readers.{bits_s, ones_s, prefix_s}
@@ -20,11 +19,10 @@ use Rattle.hevc_residual.specs.Head.{least_of, last_prefix, groups_s, head_s}
 use Rattle.hevc_residual.specs.Remainder.{remainder_s}
 use Rattle.hevc_residual.specs.Residual.{residual}
 use Rattle.hevc_residual.specs.Numbers.{within_limits, parameter_refusal, contexts_refusal, statistic_refusal, statistics_refusal}
-use Rattle.hevc_residual.specs.Entries.{PayloadRead, FoundAt, read_by_engine, read_payload_by, read_payload}
+use Rattle.hevc_residual.specs.Entries.{FoundAt, read_by_engine, read_payload_by, read_payload}
 use Rattle.hevc_depends.specs.Reached.{reached_by, reached, drew_past}
-use Rattle.hevc_depends.specs.Depends.{Asked, Shown, depends_any}
 
-pub params : Bool → Params
+unfoldable pub params : Bool → Params
 params aligning =
     record {
       log2 = 2;
@@ -43,21 +41,21 @@ params aligning =
       extended = false;
     }
 
-pub contexts : List ℕ
+unfoldable pub contexts : List ℕ
 contexts = replicate context_count 64
 
-pub stats : List ℕ
+unfoldable pub stats : List ℕ
 stats = replicate 4 0
 
-pub lent : List ℤ
+unfoldable pub lent : List ℤ
 lent = replicate 16 (pos 7)
 
 -- the number answered, and the position behind an accepted block
-number_of : Answer FoundAt → ℕ
+unfoldable pub number_of : Answer FoundAt → ℕ
 number_of (accepted f) = 0
 number_of (refused n) = n
 
-next_place : Answer FoundAt → ℕ
+unfoldable pub next_place : Answer FoundAt → ℕ
 next_place (accepted f) = place f.next
 next_place (refused n) = 0
 
@@ -74,7 +72,7 @@ pub record Facts : Type 0 where
 abbrev pub from : ℕ → List ℕ → Engine
 from t l = record { range = (started l).range; offset = (started l).offset; position = (started l).position; ended = (started l).ended; past = t }
 
-pub facts : ℕ → Bool → List ℕ → List ℕ → Facts
+unfoldable pub facts : ℕ → Bool → List ℕ → List ℕ → Facts
 unfolding params contexts stats lent number_of next_place
 facts t aligning l m =
     let p = params aligning in
@@ -92,21 +90,6 @@ facts t aligning l m =
 
 abbrev pub is : ℕ → ℕ → List ℕ → List ℕ → Facts
 is r b ns ps = record { first = 0; second = 0; reaches = r; past = b; numbers = ns; places = ps }
-
--- such a pair is one that the theorem speaks of
-asked : (t : ℕ) (aligning : Bool) (l m : List ℕ) (r : ℕ) (ns ps : List ℕ) → facts t aligning l m ≡ is r 0 ns ps → 2 ≤ length l → r ≤ ends m
-    → ((i : ℕ) → i < r → bit_at l i ≡ bit_at m i) → Asked (from t l) contexts stats (params aligning) lent l m
-unfolding facts started fetched
-asked t aligning l m r ns ps f long has same =
-    let q : place (reached l (from t l) contexts stats (params aligning) lent) ≡ r = ap (λ (z : Facts). z.reaches) f in
-    record {
-      first = sym (ap (λ (z : Facts). z.first) f);
-      second = sym (ap (λ (z : Facts). z.second) f);
-      inside = omega arith;
-      drew = ap (λ (z : Facts). z.past) f;
-      has = omega (arith, q, has);
-      same = λ i h k. same i (omega (arith, q));
-    }
 
 -- ---- payloads
 abbrev pub one : List ℕ
@@ -138,40 +121,20 @@ pub accepted_pair : facts 0 false one like_one ≡ is 13 0 (0 ∷ 0 ∷ []) (13 
 unfolding facts bits range_tab_lps trans_idx_mps trans_idx_lps lps_of on_mps on_lps fetched started split_by split decided bypassed range_aligned count_leading_zeros ◌>>=◌ run by_engine bits_s ones_s prefix_s ◌or_else◌ payload_refusal possible state_refusal context_refusal ended_refusal scan_order number_in sig_ctx spot_in wanted_in down_from least_of last_prefix groups_s head_s remainder_s residual within_limits parameter_refusal contexts_refusal statistic_refusal statistics_refusal read_by_engine read_payload_by read_payload state_of reached_by reached drew_past
 accepted_pair = refl
 
-pub accepted_shown : Shown (from 0 one) contexts stats (params false) lent one like_one
-accepted_shown =
-    depends_any (from 0 one) contexts stats (params false) lent one like_one
-    (asked 0 false one like_one 13 (0 ∷ 0 ∷ []) (13 ∷ 13 ∷ []) accepted_pair (omega arith) (omega arith) (eq_below (bit_at one) (bit_at like_one) 13 tt))
-
 -- the same from a state that comes with a total of 65,535: none is drawn past the end by this run
 pub total_pair : facts 65535 false one like_one ≡ is 13 0 (0 ∷ 0 ∷ []) (13 ∷ 13 ∷ [])
 unfolding facts bits range_tab_lps trans_idx_mps trans_idx_lps lps_of on_mps on_lps fetched started split_by split decided bypassed range_aligned count_leading_zeros ◌>>=◌ run by_engine bits_s ones_s prefix_s ◌or_else◌ payload_refusal possible state_refusal context_refusal ended_refusal scan_order number_in sig_ctx spot_in wanted_in down_from least_of last_prefix groups_s head_s remainder_s residual within_limits parameter_refusal contexts_refusal statistic_refusal statistics_refusal read_by_engine read_payload_by read_payload state_of reached_by reached drew_past
 total_pair = refl
-
-pub total_shown : Shown (from 65535 one) contexts stats (params false) lent one like_one
-total_shown =
-    depends_any (from 65535 one) contexts stats (params false) lent one like_one
-    (asked 65535 false one like_one 13 (0 ∷ 0 ∷ []) (13 ∷ 13 ∷ []) total_pair (omega arith) (omega arith) (eq_below (bit_at one) (bit_at like_one) 13 tt))
 
 -- 8, at the 35th one of a prefix: 49 bits are drawn
 pub by_8_pair : facts 0 false long_prefix like_long_prefix ≡ is 49 0 (8 ∷ 8 ∷ []) (0 ∷ 0 ∷ [])
 unfolding facts bits range_tab_lps trans_idx_mps trans_idx_lps lps_of on_mps on_lps fetched started split_by split decided bypassed range_aligned count_leading_zeros ◌>>=◌ run by_engine bits_s ones_s prefix_s ◌or_else◌ payload_refusal possible state_refusal context_refusal ended_refusal scan_order number_in sig_ctx spot_in wanted_in down_from least_of last_prefix groups_s head_s remainder_s residual within_limits parameter_refusal contexts_refusal statistic_refusal statistics_refusal read_by_engine read_payload_by read_payload state_of reached_by reached drew_past
 by_8_pair = refl
 
-pub by_8_shown : Shown (from 0 long_prefix) contexts stats (params false) lent long_prefix like_long_prefix
-by_8_shown =
-    depends_any (from 0 long_prefix) contexts stats (params false) lent long_prefix like_long_prefix
-    (asked 0 false long_prefix like_long_prefix 49 (8 ∷ 8 ∷ []) (0 ∷ 0 ∷ []) by_8_pair (omega arith) (omega arith) (eq_below (bit_at long_prefix) (bit_at like_long_prefix) 49 tt))
-
 -- 7, at an alignment: 38 bits are drawn
 pub by_7_pair : facts 0 true misaligned like_misaligned ≡ is 38 0 (7 ∷ 7 ∷ []) (0 ∷ 0 ∷ [])
 unfolding facts bits range_tab_lps trans_idx_mps trans_idx_lps lps_of on_mps on_lps fetched started split_by split decided bypassed range_aligned count_leading_zeros ◌>>=◌ run by_engine bits_s ones_s prefix_s ◌or_else◌ payload_refusal possible state_refusal context_refusal ended_refusal scan_order number_in sig_ctx spot_in wanted_in down_from least_of last_prefix groups_s head_s remainder_s residual within_limits parameter_refusal contexts_refusal statistic_refusal statistics_refusal read_by_engine read_payload_by read_payload state_of reached_by reached drew_past
 by_7_pair = refl
-
-pub by_7_shown : Shown (from 0 misaligned) contexts stats (params true) lent misaligned like_misaligned
-by_7_shown =
-    depends_any (from 0 misaligned) contexts stats (params true) lent misaligned like_misaligned
-    (asked 0 true misaligned like_misaligned 38 (7 ∷ 7 ∷ []) (0 ∷ 0 ∷ []) by_7_pair (omega arith) (omega arith) (eq_below (bit_at misaligned) (bit_at like_misaligned) 38 tt))
 
 -- ---- why the first run must draw none past its end: 75 00 reaches its end, at bit 16, by a bit that is supplied; 75 00 FF has those 16 bits, and goes on to bit 17
 pub over_pair : facts 0 false short longer ≡ is 16 1 (0 ∷ 0 ∷ []) (16 ∷ 17 ∷ [])
@@ -180,12 +143,3 @@ over_pair = refl
 
 pub over_agrees : (i : ℕ) → i < 16 → bit_at short i ≡ bit_at longer i
 over_agrees = eq_below (bit_at short) (bit_at longer) 16 tt
-
-pub over_differs : read_payload short (from 0 short) contexts stats (params false) lent ≡ read_payload longer (from 0 short) contexts stats (params false) lent → ⊥
-unfolding facts
-over_differs q =
-    let f : (facts 0 false short longer).places ≡ 16 ∷ 17 ∷ [] = ap (λ (z : Facts). z.places) over_pair in
-    let g : next_place (read_payload short (from 0 short) contexts stats (params false) lent).answer ≡ next_place (read_payload longer (from 0 short) contexts stats (params false) lent).answer =
-    ap (λ (z : PayloadRead). next_place z.answer) q in
-    let h : ◌≡◌ {A = ℕ} 16 17 = cc in
-    absurd (omega arith)

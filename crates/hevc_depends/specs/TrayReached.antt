@@ -1,5 +1,5 @@
 -- Where the reading of a tray ended, behind its last block or where 7 or 8 arose, and how many bits past the end the whole call drew.
-use Rattle.std.specs.Prelude.{ℕ, zero, suc, ◌+◌, List, [], ◌∷◌, length, take, drop, ℤ}
+use Rattle.std.specs.Prelude.{ℕ, zero, suc, ◌+◌, List, [], ◌∷◌, take, drop, ℤ}
 use Rattle.bins.specs.declared.state.Engine.{Engine}
 use Rattle.cabac.specs.Numbers.{Answer, accepted, refused}
 use Rattle.hevc_residual.specs.declared.params.Params.{Params}

@@ -11,7 +11,8 @@ use Rattle.hevc_residual.specs.declared.params.Params.{Params}
 use Rattle.hevc_residual.specs.Entries.{read_payload}
 use Rattle.hevc_residual.specs.Answers.{payload_checks}
 use Rattle.hevc_depends.specs.Reached.{reached, drew_past}
-use Rattle.hevc_depends.specs.Depends.{Shown, depends}
+use Rattle.hevc_depends.specs.Depends.{Shown}
+use Rattle.hevc_depends.proofs.DependsLaws.{depends}
 use Rattle.hevc_reached.specs.declared.entries.ReachedAt.{ReachedAt}
 use Rattle.hevc_reached.specs.Reading.{reached_all}
 use Rattle.hevc_differ.specs.declared.entries.Judgement.{Judgement}

@@ -4,7 +4,7 @@
 ghost use Rattle.std.specs.Prelude.{◌≡◌, ◌≤◌};
 ghost use Rattle.hevc_longest.specs.Longest.{longest};
 
-// In bytes. That no block has a longer list is `longest_enough` (specs/Longest.antt).
+// In bytes. That no block has a longer list is `longest_enough` (proofs/LongestLaws.antt).
 pub fn longest_list(log2: u32) -> usize
     requires { (2 ≤ log2) × (log2 ≤ 5) }
     ensures { result ≡ longest log2 }

@@ -1,5 +1,4 @@
 pub mod Plain
 pub mod Rice
 pub mod PlainLaws
-pub mod PlainNumbers
 pub mod Cases

@@ -22,7 +22,8 @@ use Rattle.hevc_residual.specs.LimitLaws.{parameter_passed, statistics_passed}
 use Rattle.hevc_checks.specs.ChecksAgree.{bins_checks}
 use Rattle.hevc_exact.specs.RefusalLaws.{refusal_near}
 use Rattle.hevc_exact.specs.Exact as exact
-use Rattle.hevc_longest.specs.Longest.{longest, longest_enough}
+use Rattle.hevc_longest.specs.Longest.{longest}
+use Rattle.hevc_longest.proofs.LongestLaws.{longest_enough}
 use Rattle.pen.specs.declared.room.Pen.{Pen}
 use Rattle.pen.specs.Sheet.{Sheet, sheet, entered_all}
 use Rattle.hevc_residual.specs.declared.answers.Written.TheVariants as listed

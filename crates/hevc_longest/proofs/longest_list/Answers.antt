@@ -1,5 +1,5 @@
 use Rattle.std.proofs.Common.{arith}
-use Rattle.hevc_longest.specs.Longest.{longest_five}
+use Rattle.hevc_longest.proofs.LongestLaws.{longest_five}
 use Rattle.hevc_longest.proofs.longest_list.Goals as goal
 
 pub returns-in_default : goal.returns-in_default

@@ -4,9 +4,6 @@ use native.Mathlib.Omega.{arith}
 use Rattle.hevc_write_refusal.specs.RefusalLaws.{nothing_hidden, agreeing_begins, agreeing_on, agreeing_not, agreeing_ends}
 use Rattle.hevc_write_refusal.proofs.refusal.any_disagrees.Goals as goal
 
-pub returns-then-not-p : goal.returns-then-not-p
-returns-then-not-p c = let a = c.args in λ w g. nothing_hidden a.p w _ _ c.if-not-p.true
-
 pub inner_order-order-requires : goal.inner_order-order-requires
 inner_order-order-requires c = c.requires.0.scan
 

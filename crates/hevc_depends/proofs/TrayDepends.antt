@@ -1,5 +1,5 @@
 -- What a tray's answer depends on (request (xii)), stopped or not: no bit behind those that the whole call drew. Assumes nothing.
-use Prim.Native.Nat.{ℕ, zero, suc, ◌+◌, ◌≤◌, ◌<◌}
+use Prim.Native.Nat.{ℕ, zero, suc, ◌+◌, ◌≤◌}
 use Rattle.std.specs.Prelude.{◌≡◌, ℤ, length, take, drop}
 use Rattle.std.proofs.Math.Path.{refl, sym, ap, subst}
 use Rattle.std.proofs.Common.{◌∙◌, arith}
@@ -9,7 +9,7 @@ use Rattle.bins.specs.Bits.{ends}
 use Rattle.bins.specs.Engine.{place}
 use Rattle.bins.specs.Syn.{Reading, Out, run, by_engine}
 use Rattle.bins.specs.EngineRuns.{Grows, state_of, run_grows}
-use Rattle.cabac.specs.Numbers.{Answer, accepted, refused, ◌or_else◌, payload_refusal, state_refusal}
+use Rattle.cabac.specs.Numbers.{Answer, accepted, refused, payload_refusal, state_refusal}
 use Rattle.depends.specs.Near.{Alike}
 use Rattle.hevc_residual.specs.declared.params.Params.{Params}
 use Rattle.hevc_residual.specs.Wanted.{area}
@@ -19,9 +19,10 @@ use Rattle.hevc_residual.specs.Answers.{payload_checks}
 use Rattle.hevc_tray.specs.declared.entries.Tray as code
 use Rattle.hevc_tray.specs.Rows.{records_of, rows_refusal, found_rows}
 use Rattle.hevc_tray.specs.Seen.{tray_seen}
-use Rattle.hevc_tray.specs.Tray.{Tray, behind, on_block, tray, tray_checks, TrayRead, laid, read_tray_by, read_tray, read_rows}
+use Rattle.hevc_tray.specs.Tray.{Tray, behind, on_block, tray, TrayRead, laid, read_tray_by, read_tray, read_rows}
 use Rattle.hevc_depends.specs.Reached.{reached_by, reached, drew_past}
-use Rattle.hevc_depends.specs.Depends.{state_alike, Asked, Shown, depends_any}
+use Rattle.hevc_depends.specs.Depends.{Shown}
+use Rattle.hevc_depends.proofs.DependsLaws.{state_alike, depends_any}
 use Rattle.hevc_depends.specs.TrayReached.{onward, tray_reached_from, tray_past_from, tray_number, tray_reached_by, tray_past_by, tray_reached, tray_drew_past}
 
 -- ---- one block: the state behind it is the state reached, and the position grows

@@ -10,12 +10,9 @@ use Rattle.trees.specs.Outcome.{Exactly, Outcome, fits, over, none, number_ok, e
 use Rattle.h264_block.specs.Block.{block}
 use Rattle.h264_block.specs.Refusal.{write_refusal}
 use Rattle.h264_block.specs.Entries.{block_refusal, block_with, BinsRead, read_bins, wanted_from, BinsWritten, write_bins}
-use Rattle.h264_block.specs.BlockLaws.{Writable, block_writes, block_exact, refusal_none, none_refusal, refusal_below}
+use Rattle.h264_block.specs.Writable.{ReadsAs}
+use Rattle.h264_block.proofs.BlockLaws.{block_writes, block_exact, refusal_none, none_refusal, refusal_below}
 use Rattle.h264_block.specs.EntryLaws.{block_passed, block_passes, writes_refused, writes_fits, writes_over, writes_passed, reads_whole, reads_passed}
-
--- the list l is read, to its last bin, by the syntax, and as exactly the levels w
-abbrev pub ReadsAs : List ℕ → List ℤ → Type 0
-ReadsAs l w = run by_list block l ≡ Out.ok w []
 
 module _ (w : List ℤ) where
   -- (A) what is not refused is written, as a list that reads as w

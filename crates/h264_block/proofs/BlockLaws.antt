@@ -14,14 +14,9 @@ use Rattle.trees.specs.ListLaws.{All, all_map, Falling, down_falling, falling_be
 use Rattle.trees.specs.LevelLaws.{Kept, Apart, zero_ranged, zero_false, false_zero, far_false, false_far}
 use Rattle.h264_block.specs.Block.{level_at, is_sig, sig_places, first_of, places_s, levels_s, block}
 use Rattle.h264_block.specs.Refusal.{write_refusal}
+use Rattle.h264_block.specs.Writable.{Writable}
 use Rattle.h264_block.specs.PlaceLaws.{Last, places_writes, Met, places_exact}
-use Rattle.h264_block.specs.LevelLaws.{Fine, Got, levels_writes, levels_exact}
-
--- ---- what can be written: 16 levels, of which one is not zero, each in range
-pub record Writable (w : List ℤ) : Type 0 where
-  pub long : length w ≡ 16
-  pub some : (k : ℕ) × (k < 16) × (is_sig w k ≡ true)
-  pub ranged : (k : ℕ) → k < 16 → in_range 15 (negative (level_at w k)) (nat_abs (level_at w k)) ≡ true
+use Rattle.h264_block.proofs.LevelLaws.{Fine, Got, levels_writes, levels_exact}
 
 not_true : (d : Bool) → (d ≡ true → ⊥) → d ≡ false
 not_true true h = absurd (h refl)

@@ -12,7 +12,7 @@ use Rattle.trees.specs.Reached.{Why, each_refused, each_list_refused, each_unwri
 use Rattle.h264_block.specs.Block.{block}
 use Rattle.h264_block.specs.Refusal.{write_refusal}
 use Rattle.h264_block.specs.Entries.{block_refusal, FoundAt, read_by_engine, read_payload_by, read_payload, read_from_list, read_bins_by, read_bins, wanted_from, write_list_by, write_list, write_bins_by, write_bins}
-use Rattle.h264_block.specs.BlockBounds.{block_bounds, block_each}
+use Rattle.h264_block.proofs.BlockBounds.{block_bounds, block_each}
 
 -- the numbers of each, in their order
 abbrev pub reader_numbers : List ℕ

@@ -38,9 +38,9 @@ magnitude_each ones bigs v =
 levels_each : {n : ℕ} (ks : List ℕ) (ones bigs : ℕ) (l : List ℤ) → Each {B = List ℤ} block_bounds (λ z m. length z ≡ length l) n (levels_s ks ones bigs l)
 unfolding levels_s
 levels_each [] ones bigs l = each_done refl
-levels_each (k ∷ ks) ones bigs l =
+levels_each {n = n} (k ∷ ks) ones bigs l =
     each_bind (magnitude_each ones bigs _) (λ v m u. each_bypass (λ neg. each_if (in_range 15 neg (suc v))
-    (λ q. each_as (levels_each ks _ _ (set l k (signed neg (suc v)))) (λ z m h. h ∙ length-set l k (signed neg (suc v))))
+    (λ q. each_as (levels_each {n = suc m} ks _ _ (set l k (signed neg (suc v)))) (λ z m h. h ∙ length-set l k (signed neg (suc v))))
     (λ q. each_stop refl)))
 
 pub block_each : {n : ℕ} → Each {B = List ℤ} block_bounds (λ l m. length l ≡ 16) n block

@@ -1,12 +1,11 @@
 -- Request (xii) of a tray, computed: two 4x4 blocks from C9 62 0F C0, of which 26 bits are drawn, and from C9 62 0F C0 55; and one that 8 stops at its second
 -- block, where 53 bits are drawn.
-use Rattle.std.specs.Prelude.{ℕ, ◌≤◌, ◌<◌, ◌≡◌, refl, List, [], ◌∷◌, Bool, true, false, length, replicate, ℤ, pos}
-use Rattle.std.proofs.Common.{sym, ap, arith}
+use Rattle.std.specs.Prelude.{ℕ, ◌≡◌, refl, List, [], ◌∷◌, true, false, replicate, ℤ, pos}
+use Rattle.std.proofs.Common.{ap, arith}
 use Rattle.std.specs.Int.Count.{count_leading_zeros}
 use Rattle.tables.specs.Table.{eq_below}
 use Rattle.tables.specs.Tables.{range_tab_lps, trans_idx_mps, trans_idx_lps, lps_of, on_mps, on_lps}
-use Rattle.bins.specs.declared.state.Engine.{Engine}
-use Rattle.bins.specs.Bits.{bit_at, bits, ends}
+use Rattle.bins.specs.Bits.{bit_at, bits}
 use Rattle.bins.specs.Engine.{place, fetched, started, split_by, split, decided, bypassed, range_aligned}
 use Rattle.bins.specs.Syn.{◌>>=◌, run, by_engine}
 use Rattle.bins.specs.Readers.{bits_s, ones_s, prefix_s}
@@ -26,7 +25,7 @@ use Rattle.hevc_tray.specs.Tray.{on_block, tray, count_refusal, records_refusal,
 use Rattle.hevc_tray.specs.Rows.{found_rows}
 use Rattle.hevc_depends.specs.Reached.{reached_by, reached, drew_past}
 use Rattle.hevc_depends.specs.TrayReached.{onward, tray_reached_from, tray_past_from, tray_number, tray_reached_by, tray_past_by, tray_reached, tray_drew_past}
-use Rattle.hevc_depends.specs.TrayDepends.{TrayAsked, TrayShown, tray_depends}
+use Rattle.hevc_depends.proofs.TrayDepends.{TrayShown, tray_depends}
 
 pub block4 : Params
 block4 =

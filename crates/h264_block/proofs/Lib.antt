@@ -1,0 +1,5 @@
+pub mod BlockBounds
+pub mod LevelLaws
+pub mod BlockLaws
+pub mod Exact
+pub mod BlockNumbers

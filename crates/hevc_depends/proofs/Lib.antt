@@ -1,0 +1,4 @@
+pub mod DependsLaws
+pub mod TrayDepends
+pub mod InstancesLaws
+pub mod TrayInstance
