@@ -5,12 +5,15 @@
 
 mod words; // words.rt: what standard error is told
 
-ghost use Rattle.std.specs.Prelude.{◌≡◌, ◌+◌, ◌*◌, ◌≤◌, ◌<◌, length};
+ghost use Rattle.std.specs.Prelude.{◌≡◌, ◌+◌, ◌*◌, ◌≤◌, ◌<◌, length, IfOk};
 
 use book_answering::answering::{feed, finish};
 use book_answers::tally::NUMBERS;
 use book_lines::pending::{Pending, first};
-use libc::{STDERR_FILENO, STDIN_FILENO, STDOUT_FILENO};
+use std::alloc::Global;
+use std::io;
+use std::io::{IsTerminal, Read};
+use text::fail::fail;
 
 // A piece has at most 4,096 bytes. The room holds an answer for each of them.
 const ROOM: usize = 286720;
@@ -25,84 +28,135 @@ pub struct Next {
 }
 
 // False, and a word on standard error, where the answers could not be written.
-fn written(out: &[u8]) -> bool {
-    if !io::write_all(STDOUT_FILENO, out) {
-        os::fail(b"the answers");
-        return false;
+fn written(to: &impl Print, err: &impl Print, alloc: Global, out: &[u8]) -> io::Result<bool> {
+    match to.write_all(out) {
+        Ok(()) => Ok(true),
+        Err(e) => {
+            fail(err, alloc, b"the answers", &e)?;
+            Ok(false)
+        }
     }
-    true
 }
 
 // The end of the book.
-fn end(line: &[u8], tally: &mut [u64], out: &mut [u8], p: Pending)
+fn end(
+    to: &impl Print,
+    err: &impl Print,
+    alloc: Global,
+    line: &[u8],
+    tally: &mut [u64],
+    out: &mut [u8],
+    p: Pending,
+) -> io::Result<()>
     requires { (length line.now ≡ 8469) × (p.held ≤ 8469) × (length out.old ≡ 286720) × (1 ≤ p.number) × (p.number < 18446744073709551615) }
 {
     let s = finish(line, p, tally, out);
     let n = s.out;
     let behind = s.line.number;
-    if written(&out[..n]) {
-        words::ended(behind - 1, tally);
+    if written(to, err, alloc, &out[..n])? {
+        words::ended(err, behind - 1, tally)?;
     }
+    Ok(())
 }
 
 // A piece is fed, and what it gave written.
-fn fed(piece: &[u8], line: &mut [u8], tally: &mut [u64], out: &mut [u8], p: Pending) -> Next
+fn fed(
+    to: &impl Print,
+    err: &impl Print,
+    alloc: Global,
+    piece: &[u8],
+    line: &mut [u8],
+    tally: &mut [u64],
+    out: &mut [u8],
+    p: Pending,
+) -> io::Result<Next>
     requires { (length piece.now ≤ 4096) × (length line.old ≡ 8469) × (p.held ≤ 8469) × (length out.old ≡ 286720) × (p.number + 4096 < 18446744073709551615) }
-    ensures { (result.line.held ≤ 8469) × (result.line.number ≤ p.number + 4096) × (p.number ≤ result.line.number) }
+    ensures { IfOk result (λ next. (next.line.held ≤ 8469) × (next.line.number ≤ p.number + 4096) × (p.number ≤ next.line.number)) }
 {
     let s = feed(piece, line, p, tally, out);
     let n = s.out;
-    let more = written(&out[..n]);
+    let more = written(to, err, alloc, &out[..n])?;
     let line_now = s.line;
-    Next {
+    Ok(Next {
         line: line_now,
         more,
-    }
+    })
 }
 
 // One piece, or the end.
-fn turn(piece: &mut [u8], line: &mut [u8], tally: &mut [u64], out: &mut [u8], p: Pending) -> Next
+fn turn(
+    input: &mut impl Read,
+    to: &impl Print,
+    err: &impl Print,
+    alloc: Global,
+    piece: &mut [u8],
+    line: &mut [u8],
+    tally: &mut [u64],
+    out: &mut [u8],
+    p: Pending,
+) -> io::Result<Next>
     requires { (length piece.old ≡ 4096) × (length line.old ≡ 8469) × (p.held ≤ 8469) × (length out.old ≡ 286720) × (1 ≤ p.number) × (p.number + 4096 < 18446744073709551615) }
-    ensures { (result.line.held ≤ 8469) × (result.line.number ≤ p.number + 4096) × (p.number ≤ result.line.number) }
+    ensures { IfOk result (λ next. (next.line.held ≤ 8469) × (next.line.number ≤ p.number + 4096) × (p.number ≤ next.line.number)) }
 {
     let over = Next {
         line: p,
         more: false,
     };
-    let got = libc::read(STDIN_FILENO, piece);
-    if got < 0 {
-        os::fail(b"the book");
-        return over;
+    match input.read(piece) {
+        Ok(0) => {
+            end(to, err, alloc, line, tally, out, p)?;
+            Ok(over)
+        }
+        Ok(n) => fed(to, err, alloc, &piece[..n], line, tally, out, p),
+        Err(e) => {
+            fail(err, alloc, b"the book", &e)?;
+            Ok(over)
+        }
     }
-    let n = io::count(got, piece);
-    if n == 0 {
-        end(line, tally, out, p);
-        return over;
-    }
-    fed(&piece[..n], line, tally, out, p)
 }
 
-fn turns(piece: &mut [u8], line: &mut [u8], tally: &mut [u64], out: &mut [u8], told: bool)
+fn turns(
+    input: &mut impl Read,
+    to: &impl Print,
+    err: &impl Print,
+    alloc: Global,
+    piece: &mut [u8],
+    line: &mut [u8],
+    tally: &mut [u64],
+    out: &mut [u8],
+    told: bool,
+) -> io::Result<()>
     requires { (length piece.old ≡ 4096) × (length line.old ≡ 8469) × (length out.old ≡ 286720) }
 {
     let mut p = first();
     let mut left = TURNS;
     while 0 < left {
-        let r = turn(piece, line, tally, out, p);
+        let r = turn(input, to, err, alloc, piece, line, tally, out, p)?;
         if !r.more {
-            return;
+            return Ok(());
         }
         p = r.line;
         left -= 1;
-        words::so_far(told, left, p.number);
+        words::so_far(err, told, left, p.number)?;
     }
+    Ok(())
 }
 
-fn main() {
-    let told = libc::isatty(STDERR_FILENO) == 1;
-    let mut piece = io::buffer();
+fn main(rt: HostRuntime) -> io::Result<()> {
+    let err = rt.stderr();
+    let mut piece = [0u8; 4096];
     let mut line = [0u8; 8469];
     let mut tally = [0u64; NUMBERS];
     let mut out = [0u8; ROOM];
-    turns(&mut piece, &mut line, &mut tally, &mut out, told);
+    turns(
+        &mut rt.stdin(),
+        &rt.stdout(),
+        &err,
+        rt.alloc(),
+        &mut piece,
+        &mut line,
+        &mut tally,
+        &mut out,
+        err.is_terminal(),
+    )
 }

@@ -18,6 +18,7 @@ use hevc_plain_coding::entries::{read_bins_plain, residual_coding_plain};
 use hevc_reader::entries::{read_bins, residual_coding};
 use hevc_residual::answers::{Found, Read, ReadList};
 use hevc_residual::params::{Params, Rdpcm};
+use std::io;
 
 // n·n of an accepted size; no other block is written to.
 pub fn area(log2: u32) -> usize {
@@ -30,32 +31,58 @@ pub fn area(log2: u32) -> usize {
     }
 }
 
-fn level(s: &[u8], at: usize, first: bool, n: usize, value: i32) -> usize {
-    answer::signed(s, answer::place(s, at, first, n), value)
+fn level(
+    out: &impl Print,
+    s: &[u8],
+    at: usize,
+    first: bool,
+    n: usize,
+    value: i32,
+) -> io::Result<usize> {
+    answer::signed(out, s, answer::place(out, s, at, first, n)?, value)
 }
 
 // The levels from a place on, and before another, that are not 0.
-pub fn levels(s: &[u8], at: usize, block: &[i32], from: usize, end: usize) -> usize {
+pub fn levels(
+    out: &impl Print,
+    s: &[u8],
+    at: usize,
+    block: &[i32],
+    from: usize,
+    end: usize,
+) -> io::Result<usize> {
     let mut to = at;
     let mut none = true;
     let mut i = from;
     while i < end {
         if block.len() <= i {
-            return answer::OTHER;
+            return Ok(answer::OTHER);
         }
         if block[i] != 0 {
-            to = level(s, to, none, i - from, block[i]);
+            to = level(out, s, to, none, i - from, block[i])?;
             none = false;
         }
         i += 1;
     }
-    answer::unless(s, to, !none, b"-")
+    answer::unless(out, s, to, !none, b"-")
 }
 
 // The levels of a block, with the places behind it as they were.
-pub fn all_levels(s: &[u8], at: usize, block: &[i32; PLACES], end: usize) -> usize {
-    let to = levels(s, at, block, 0, end);
-    answer::unless(s, to, holds(block, end, PLACES, MARK), b" behind=changed")
+pub fn all_levels(
+    out: &impl Print,
+    s: &[u8],
+    at: usize,
+    block: &[i32; PLACES],
+    end: usize,
+) -> io::Result<usize> {
+    let to = levels(out, s, at, block, 0, end)?;
+    answer::unless(
+        out,
+        s,
+        to,
+        holds(block, end, PLACES, MARK),
+        b" behind=changed",
+    )
 }
 
 fn rdpcm(r: Rdpcm) -> u32 {
@@ -67,14 +94,21 @@ fn rdpcm(r: Rdpcm) -> u32 {
 }
 
 // A direction by its number, which is one more than the record's.
-pub fn direction(s: &[u8], at: usize, n: u32) -> usize {
+pub fn direction(out: &impl Print, s: &[u8], at: usize, n: u32) -> io::Result<usize> {
     if n == 0 {
-        return answer::text(s, at, b"-1");
+        return answer::text(out, s, at, b"-1");
     }
-    answer::decimal(s, at, (n - 1) as u64)
+    answer::decimal(out, s, at, (n - 1) as u64)
 }
 
-fn found(s: &[u8], at: usize, f: Found, block: &[i32; PLACES], end: usize) -> usize {
+fn found(
+    out: &impl Print,
+    s: &[u8],
+    at: usize,
+    f: Found,
+    block: &[i32; PLACES],
+    end: usize,
+) -> io::Result<usize> {
     let choice = f.rdpcm;
     let n = [
         f.skip as u64,
@@ -86,22 +120,29 @@ fn found(s: &[u8], at: usize, f: Found, block: &[i32; PLACES], end: usize) -> us
         0,
         0,
     ];
-    let head = answer::form(s, at, b"answer=0 skip=$0 rdpcm=", &n);
-    let sign = direction(s, head, rdpcm(choice));
-    let to = answer::form(s, sign, b" column=$1 row=$2 greatest=$3 levels=", &n);
-    all_levels(s, to, block, end)
+    let head = answer::form(out, s, at, b"answer=0 skip=$0 rdpcm=", &n)?;
+    let sign = direction(out, s, head, rdpcm(choice))?;
+    let to = answer::form(out, s, sign, b" column=$1 row=$2 greatest=$3 levels=", &n)?;
+    all_levels(out, s, to, block, end)
 }
 
 // What a refusal left of the places that were lent.
-pub fn refused(s: &[u8], at: usize, n: u32, block: &[i32; PLACES], end: usize) -> usize {
-    let to = answer::refusal(s, at, n);
+pub fn refused(
+    out: &impl Print,
+    s: &[u8],
+    at: usize,
+    n: u32,
+    block: &[i32; PLACES],
+    end: usize,
+) -> io::Result<usize> {
+    let to = answer::refusal(out, s, at, n)?;
     if holds(block, 0, PLACES, MARK) {
-        return answer::text(s, to, b" memory=untouched");
+        return answer::text(out, s, to, b" memory=untouched");
     }
     if holds(block, 0, end, 0) & holds(block, end, PLACES, MARK) {
-        return answer::text(s, to, b" memory=zero");
+        return answer::text(out, s, to, b" memory=zero");
     }
-    answer::text(s, to, b" memory=changed")
+    answer::text(out, s, to, b" memory=changed")
 }
 
 fn read_by(
@@ -120,6 +161,7 @@ fn read_by(
 }
 
 fn block_of(
+    out: &impl Print,
     s: &[u8],
     plain: bool,
     bytes: &[u8],
@@ -129,7 +171,7 @@ fn block_of(
     stats: &[u8; 4],
     places: usize,
     at: usize,
-) -> usize {
+) -> io::Result<usize> {
     let mut block = [MARK; PLACES];
     let mut after = *contexts;
     let mut left = *stats;
@@ -145,29 +187,37 @@ fn block_of(
     let end = area(p.log2);
     match r {
         Read::Block(f, next) => {
-            let to = found(s, at, f, &block, end);
-            let to = engine::state(s, to, b" state=$1,$2,$3,$4,$5", 0, next, 0);
-            let to = answer::contexts(s, to, contexts, &after);
-            answer::statistics(s, to, &left)
+            let to = found(out, s, at, f, &block, end)?;
+            let to = engine::state(out, s, to, b" state=$1,$2,$3,$4,$5", 0, next, 0)?;
+            let to = answer::contexts(out, s, to, contexts, &after)?;
+            answer::statistics(out, s, to, &left)
         }
         Read::Refused(n) => {
-            let to = refused(s, at, n, &block, end);
+            let to = refused(out, s, at, n, &block, end)?;
             let right = same_contexts(contexts, &after) & same_statistics(stats, &left);
-            answer::unless(s, to, right, b" ctx=changed")
+            answer::unless(out, s, to, right, b" ctx=changed")
         }
     }
 }
 
-pub fn block(s: &[u8], plain: bool, bytes: &[u8], e: Engine, places: usize, at: usize) -> usize {
+pub fn block(
+    out: &impl Print,
+    s: &[u8],
+    plain: bool,
+    bytes: &[u8],
+    e: Engine,
+    places: usize,
+    at: usize,
+) -> io::Result<usize> {
     let mut contexts = [64u8; CONTEXTS];
     let mut stats = [0u8; 4];
     let lent = given::lent(value(s, b"ctx"), &mut contexts);
     if !(given::lent(value(s, b"stats"), &mut stats) & lent) {
-        return NONE;
+        return Ok(NONE);
     }
     match given::params(value(s, b"p")) {
-        Chosen::Are(p) => block_of(s, plain, bytes, e, p, &contexts, &stats, places, at),
-        Chosen::Missing => NONE,
+        Chosen::Are(p) => block_of(out, s, plain, bytes, e, p, &contexts, &stats, places, at),
+        Chosen::Missing => Ok(NONE),
     }
 }
 
@@ -185,6 +235,7 @@ fn list_by(
 }
 
 fn list_of(
+    out: &impl Print,
     s: &[u8],
     plain: bool,
     bins: &[u8],
@@ -192,32 +243,39 @@ fn list_of(
     stats: &[u8; 4],
     places: usize,
     at: usize,
-) -> usize {
+) -> io::Result<usize> {
     let mut block = [MARK; PLACES];
     let mut left = *stats;
     let r = list_by(plain, bins, &mut left, p, front(&mut block, places));
     let end = area(p.log2);
     match r {
         ReadList::Block(f) => {
-            let to = found(s, at, f, &block, end);
-            let to = answer::statistics(s, to, &left);
+            let to = found(out, s, at, f, &block, end)?;
+            let to = answer::statistics(out, s, to, &left)?;
             let right = is_list_of(plain, p, stats, &block, f, bins, &left);
-            answer::unless(s, to, right, b" again=differs")
+            answer::unless(out, s, to, right, b" again=differs")
         }
         ReadList::Refused(n) => {
-            let to = refused(s, at, n, &block, end);
-            answer::unless(s, to, same_statistics(stats, &left), b" stats=changed")
+            let to = refused(out, s, at, n, &block, end)?;
+            answer::unless(out, s, to, same_statistics(stats, &left), b" stats=changed")
         }
     }
 }
 
-pub fn list(s: &[u8], plain: bool, bins: &[u8], places: usize, at: usize) -> usize {
+pub fn list(
+    out: &impl Print,
+    s: &[u8],
+    plain: bool,
+    bins: &[u8],
+    places: usize,
+    at: usize,
+) -> io::Result<usize> {
     let mut stats = [0u8; 4];
     if !given::lent(value(s, b"stats"), &mut stats) {
-        return NONE;
+        return Ok(NONE);
     }
     match given::params(value(s, b"p")) {
-        Chosen::Are(p) => list_of(s, plain, bins, p, &stats, places, at),
-        Chosen::Missing => NONE,
+        Chosen::Are(p) => list_of(out, s, plain, bins, p, &stats, places, at),
+        Chosen::Missing => Ok(NONE),
     }
 }

@@ -17,10 +17,19 @@ use cabac_bypass::bypass::{decode_bypass, decode_bypass_bits, read_bits};
 use cabac_engine::engine::restart;
 use case_text::answer;
 use check::same;
+use std::io;
 use text::lines::part;
 
 // A value and the state behind it, behind a key.
-pub fn state(s: &[u8], at: usize, f: &[u8], value: u32, e: Engine, context: u8) -> usize {
+pub fn state(
+    out: &impl Print,
+    s: &[u8],
+    at: usize,
+    f: &[u8],
+    value: u32,
+    e: Engine,
+    context: u8,
+) -> io::Result<usize> {
     let n = [
         value as u64,
         e.range as u64,
@@ -31,26 +40,35 @@ pub fn state(s: &[u8], at: usize, f: &[u8], value: u32, e: Engine, context: u8) 
         context as u64,
         0,
     ];
-    answer::form(s, at, f, &n)
+    answer::form(out, s, at, f, &n)
 }
 
-pub fn ready(s: &[u8], at: usize, r: State) -> usize {
+pub fn ready(out: &impl Print, s: &[u8], at: usize, r: State) -> io::Result<usize> {
     match r {
-        State::Ready(e) => state(s, at, b"answer=0 state=$1,$2,$3,$4,$5", 0, e, 0),
-        State::Refused(n) => answer::refusal(s, at, n),
+        State::Ready(e) => state(out, s, at, b"answer=0 state=$1,$2,$3,$4,$5", 0, e, 0),
+        State::Refused(n) => answer::refusal(out, s, at, n),
     }
 }
 
-fn bins(s: &[u8], at: usize, r: Bins) -> usize {
+fn bins(out: &impl Print, s: &[u8], at: usize, r: Bins) -> io::Result<usize> {
     match r {
-        Bins::Read(v, e) => state(s, at, b"answer=0 value=$0 state=$1,$2,$3,$4,$5", v, e, 0),
-        Bins::Refused(n) => answer::refusal(s, at, n),
+        Bins::Read(v, e) => state(
+            out,
+            s,
+            at,
+            b"answer=0 value=$0 state=$1,$2,$3,$4,$5",
+            v,
+            e,
+            0,
+        ),
+        Bins::Refused(n) => answer::refusal(out, s, at, n),
     }
 }
 
-fn decision(s: &[u8], at: usize, r: Decision) -> usize {
+fn decision(out: &impl Print, s: &[u8], at: usize, r: Decision) -> io::Result<usize> {
     match r {
         Decision::Bin(bin, context, e) => state(
+            out,
             s,
             at,
             b"answer=0 value=$0 state=$1,$2,$3,$4,$5 context=$6",
@@ -58,30 +76,38 @@ fn decision(s: &[u8], at: usize, r: Decision) -> usize {
             e,
             context,
         ),
-        Decision::Refused(n) => answer::refusal(s, at, n),
+        Decision::Refused(n) => answer::refusal(out, s, at, n),
     }
 }
 
 // The rest is given out by an entry point of its own: what stands behind the byte place, and nothing at a refusal.
-fn aligned(s: &[u8], at: usize, bytes: &[u8], left: &[u8], r: State) -> usize {
+fn aligned(
+    out: &impl Print,
+    s: &[u8],
+    at: usize,
+    bytes: &[u8],
+    left: &[u8],
+    r: State,
+) -> io::Result<usize> {
     match r {
         State::Ready(e) => {
             let from = e.position.0 / 8;
-            let head = answer::text(s, at, b"answer=0 rest=");
-            let key = answer::decimal(s, head, from as u64);
-            let to = state(s, key, b" state=$1,$2,$3,$4,$5", 0, e, 0);
+            let head = answer::text(out, s, at, b"answer=0 rest=")?;
+            let key = answer::decimal(out, s, head, from as u64)?;
+            let to = state(out, s, key, b" state=$1,$2,$3,$4,$5", 0, e, 0)?;
             let right = same(left, part(bytes, from, bytes.len()));
-            answer::unless(s, to, right, b" rest=differs")
+            answer::unless(out, s, to, right, b" rest=differs")
         }
         State::Refused(n) => {
-            let to = answer::refusal(s, at, n);
-            answer::unless(s, to, left.len() == 0, b" rest=given")
+            let to = answer::refusal(out, s, at, n)?;
+            answer::unless(out, s, to, left.len() == 0, b" rest=given")
         }
     }
 }
 
 // By the kind's number among those with a state (kinds.rt).
 pub fn answered(
+    out: &impl Print,
     kind: usize,
     s: &[u8],
     bytes: &[u8],
@@ -89,15 +115,15 @@ pub fn answered(
     count: u32,
     context: u8,
     at: usize,
-) -> usize {
+) -> io::Result<usize> {
     match kind {
-        0 => decision(s, at, decode_bin(bytes, e, context)),
-        1 => bins(s, at, decode_bypass_bits(bytes, e, count)),
-        2 => bins(s, at, decode_bypass(bytes, e)),
-        3 => bins(s, at, read_bits(bytes, e, count)),
-        4 => bins(s, at, decode_terminate(bytes, e)),
-        5 => aligned(s, at, bytes, rest(bytes, e), byte_align(bytes, e)),
-        6 => ready(s, at, restart(bytes, e)),
-        _ => ready(s, at, align_bypass(bytes, e)),
+        0 => decision(out, s, at, decode_bin(bytes, e, context)),
+        1 => bins(out, s, at, decode_bypass_bits(bytes, e, count)),
+        2 => bins(out, s, at, decode_bypass(bytes, e)),
+        3 => bins(out, s, at, read_bits(bytes, e, count)),
+        4 => bins(out, s, at, decode_terminate(bytes, e)),
+        5 => aligned(out, s, at, bytes, rest(bytes, e), byte_align(bytes, e)),
+        6 => ready(out, s, at, restart(bytes, e)),
+        _ => ready(out, s, at, align_bypass(bytes, e)),
     }
 }

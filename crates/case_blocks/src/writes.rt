@@ -12,6 +12,7 @@ use hevc_plain_writer::entries::write_bins_plain;
 use hevc_residual::answers::{Found, Written};
 use hevc_residual::params::{Params, Rdpcm};
 use hevc_writer::entries::write_bins;
+use std::io;
 use text::lines::part;
 
 fn write_by(
@@ -30,22 +31,29 @@ fn write_by(
 }
 
 // A list at the front of the room, with what stands behind it untouched; a refusal leaves all of it as it was.
-pub fn told(s: &[u8], at: usize, r: Written, room: &[u8; LIST]) -> usize {
+pub fn told(
+    out: &impl Print,
+    s: &[u8],
+    at: usize,
+    r: Written,
+    room: &[u8; LIST],
+) -> io::Result<usize> {
     match r {
         Written::List(n) => {
-            let key = answer::text(s, at, b"answer=0 length=");
-            let list = answer::text(s, answer::decimal(s, key, n as u64), b" list=");
-            let to = answer::bytes(s, list, part(room, 0, n));
-            answer::unless(s, to, is_blank_from(room, n), b" room=changed")
+            let key = answer::text(out, s, at, b"answer=0 length=")?;
+            let list = answer::text(out, s, answer::decimal(out, s, key, n as u64)?, b" list=")?;
+            let to = answer::bytes(out, s, list, part(room, 0, n))?;
+            answer::unless(out, s, to, is_blank_from(room, n), b" room=changed")
         }
         Written::Refused(n) => {
-            let to = answer::refusal(s, at, n);
-            answer::unless(s, to, is_blank_from(room, 0), b" room=changed")
+            let to = answer::refusal(out, s, at, n)?;
+            answer::unless(out, s, to, is_blank_from(room, 0), b" room=changed")
         }
     }
 }
 
 fn written(
+    out: &impl Print,
     s: &[u8],
     plain: bool,
     p: Params,
@@ -56,7 +64,7 @@ fn written(
     length: usize,
     places: usize,
     at: usize,
-) -> usize {
+) -> io::Result<usize> {
     let mut room = [BLANK; LIST];
     let mut left = *stats;
     let r = write_by(
@@ -68,10 +76,11 @@ fn written(
         rdpcm,
         room_of(&mut room, length),
     );
-    let to = told(s, at, r, &room);
+    let to = told(out, s, at, r, &room)?;
     match r {
-        Written::List(_) => answer::statistics(s, to, &left),
+        Written::List(_) => answer::statistics(out, s, to, &left),
         Written::Refused(_) => answer::unless(
+            out,
             s,
             to,
             same_statistics(stats, &left),
@@ -82,33 +91,42 @@ fn written(
 
 // With levels and statistics.
 fn chosen(
+    out: &impl Print,
     s: &[u8],
     plain: bool,
     stats: &[u8; 4],
     block: &[i32; PLACES],
     n: &[u32; 8],
     at: usize,
-) -> usize {
+) -> io::Result<usize> {
     let Chosen::Are(p) = given::params(value(s, b"p")) else {
-        return NONE;
+        return Ok(NONE);
     };
     let RdpcmGiven::Is(rdpcm) = given::direction(value(s, b"rdpcm")) else {
-        return NONE;
+        return Ok(NONE);
     };
     let skip = n[given::SKIP] == 1;
     let length = given::size(n[given::ROOM]);
     let places = given::size(n[given::LENT]);
-    written(s, plain, p, stats, block, skip, rdpcm, length, places, at)
+    written(
+        out, s, plain, p, stats, block, skip, rdpcm, length, places, at,
+    )
 }
 
-pub fn write(s: &[u8], plain: bool, n: &[u32; 8], at: usize) -> usize {
+pub fn write(
+    out: &impl Print,
+    s: &[u8],
+    plain: bool,
+    n: &[u32; 8],
+    at: usize,
+) -> io::Result<usize> {
     let mut block = [0i32; PLACES];
     let mut stats = [0u8; 4];
     let levels = given::levels(value(s, b"levels"), &mut block);
     if given::lent(value(s, b"stats"), &mut stats) & levels {
-        return chosen(s, plain, &stats, &block, n, at);
+        return chosen(out, s, plain, &stats, &block, n, at);
     }
-    NONE
+    Ok(NONE)
 }
 
 // Whether the writer makes this list of a block that was read, and leaves the statistics that the reader left.

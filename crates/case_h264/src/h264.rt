@@ -7,7 +7,6 @@
 //
 // At a refusal: answer memory. A list that is accepted must be the one that the bin writer makes of its block.
 use bins::state::Engine;
-use bytes::scan::find;
 use case_blocks::blocks::{all_levels, refused};
 use case_blocks::engine;
 use case_blocks::writes::told;
@@ -21,6 +20,8 @@ use h264_contexts::contexts::init_pairs;
 use h264_reader::entries::{Read, ReadList, read_bins, residual_block};
 use h264_writer::entries::write_bins;
 use hevc_residual::answers::Written;
+use octet_scan::find;
+use std::io;
 use text::lines::part;
 use text::write;
 
@@ -42,8 +43,14 @@ fn greatest(block: &[i32; PLACES]) -> u64 {
     m
 }
 
-fn changes(s: &[u8], at: usize, before: &[u8; CONTEXTS], after: &[u8; CONTEXTS]) -> usize {
-    answer::changes(s, at, before, after)
+fn changes(
+    out: &impl Print,
+    s: &[u8],
+    at: usize,
+    before: &[u8; CONTEXTS],
+    after: &[u8; CONTEXTS],
+) -> io::Result<usize> {
+    answer::changes(out, s, at, before, after)
 }
 
 fn same_contexts(a: &[u8; CONTEXTS], b: &[u8; CONTEXTS]) -> bool {
@@ -51,40 +58,66 @@ fn same_contexts(a: &[u8; CONTEXTS], b: &[u8; CONTEXTS]) -> bool {
 }
 
 // The levels, of which one has the magnitude that is given as the greatest.
-fn levels(s: &[u8], at: usize, m: u32, block: &[i32; PLACES]) -> usize {
-    let to = all_levels(s, answer::text(s, at, b"answer=0 levels="), block, 16);
-    answer::unless(s, to, greatest(block) == m as u64, b" greatest=differs")
+fn levels(
+    out: &impl Print,
+    s: &[u8],
+    at: usize,
+    m: u32,
+    block: &[i32; PLACES],
+) -> io::Result<usize> {
+    let to = all_levels(
+        out,
+        s,
+        answer::text(out, s, at, b"answer=0 levels=")?,
+        block,
+        16,
+    )?;
+    answer::unless(
+        out,
+        s,
+        to,
+        greatest(block) == m as u64,
+        b" greatest=differs",
+    )
 }
 
 fn from(
+    out: &impl Print,
     s: &[u8],
     bytes: &[u8],
     e: Engine,
     contexts: &[u8; CONTEXTS],
     places: usize,
     at: usize,
-) -> usize {
+) -> io::Result<usize> {
     let mut block = [MARK; PLACES];
     let mut after = *contexts;
     match residual_block(bytes, e, &mut after, front(&mut block, places)) {
         Read::Block(m, next) => {
-            let to = levels(s, at, m, &block);
-            let to = engine::state(s, to, b" state=$1,$2,$3,$4,$5", 0, next, 0);
-            changes(s, to, contexts, &after)
+            let to = levels(out, s, at, m, &block)?;
+            let to = engine::state(out, s, to, b" state=$1,$2,$3,$4,$5", 0, next, 0)?;
+            changes(out, s, to, contexts, &after)
         }
         Read::Refused(n) => {
-            let to = refused(s, at, n, &block, 16);
-            answer::unless(s, to, same_contexts(contexts, &after), b" ctx=changed")
+            let to = refused(out, s, at, n, &block, 16)?;
+            answer::unless(out, s, to, same_contexts(contexts, &after), b" ctx=changed")
         }
     }
 }
 
-pub fn payload(s: &[u8], bytes: &[u8], e: Engine, places: usize, at: usize) -> usize {
+pub fn payload(
+    out: &impl Print,
+    s: &[u8],
+    bytes: &[u8],
+    e: Engine,
+    places: usize,
+    at: usize,
+) -> io::Result<usize> {
     let mut contexts = [64u8; CONTEXTS];
     if given::lent(value(s, b"ctx"), &mut contexts) {
-        return from(s, bytes, e, &contexts, places, at);
+        return from(out, s, bytes, e, &contexts, places, at);
     }
-    NONE
+    Ok(NONE)
 }
 
 fn into_room(block: &[i32], room: &mut [u8]) -> Written {
@@ -102,29 +135,48 @@ fn is_list_of(block: &[i32; PLACES], bins: &[u8]) -> bool {
     same(part(&room, 0, n), bins)
 }
 
-pub fn list(s: &[u8], bins: &[u8], places: usize, at: usize) -> usize {
+pub fn list(
+    out: &impl Print,
+    s: &[u8],
+    bins: &[u8],
+    places: usize,
+    at: usize,
+) -> io::Result<usize> {
     let mut block = [MARK; PLACES];
     match read_bins(bins, front(&mut block, places)) {
         ReadList::Block(m) => {
-            let to = levels(s, at, m, &block);
-            answer::unless(s, to, is_list_of(&block, bins), b" again=differs")
+            let to = levels(out, s, at, m, &block)?;
+            answer::unless(out, s, to, is_list_of(&block, bins), b" again=differs")
         }
-        ReadList::Refused(n) => refused(s, at, n, &block, 16),
+        ReadList::Refused(n) => refused(out, s, at, n, &block, 16),
     }
 }
 
-fn written(s: &[u8], block: &[i32; PLACES], length: usize, places: usize, at: usize) -> usize {
+fn written(
+    out: &impl Print,
+    s: &[u8],
+    block: &[i32; PLACES],
+    length: usize,
+    places: usize,
+    at: usize,
+) -> io::Result<usize> {
     let mut room = [BLANK; LIST];
     let r = into_room(first_of(block, places), room_of(&mut room, length));
-    told(s, at, r, &room)
+    told(out, s, at, r, &room)
 }
 
-pub fn write(s: &[u8], length: usize, places: usize, at: usize) -> usize {
+pub fn write(
+    out: &impl Print,
+    s: &[u8],
+    length: usize,
+    places: usize,
+    at: usize,
+) -> io::Result<usize> {
     let mut block = [0i32; PLACES];
     if given::levels(value(s, b"levels"), &mut block) {
-        return written(s, &block, length, places, at);
+        return written(out, s, &block, length, places, at);
     }
-    NONE
+    Ok(NONE)
 }
 
 // m:n
@@ -162,19 +214,32 @@ fn pairs(s: &[u8], out: &mut [i32; NUMBERS]) -> usize {
     0
 }
 
-fn accepted(s: &[u8], at: usize, contexts: &[u8; CONTEXTS]) -> usize {
-    answer::bytes(s, answer::text(s, at, b"answer=0 ctx="), contexts)
+fn accepted(out: &impl Print, s: &[u8], at: usize, contexts: &[u8; CONTEXTS]) -> io::Result<usize> {
+    answer::bytes(
+        out,
+        s,
+        answer::text(out, s, at, b"answer=0 ctx=")?,
+        contexts,
+    )
 }
 
 // Contexts hold something else before: an initialisation sets all of them, a refusal none.
-fn initial(s: &[u8], numbers: &[i32; NUMBERS], n: usize, q: u8, at: usize) -> usize {
+fn initial(
+    out: &impl Print,
+    s: &[u8],
+    numbers: &[i32; NUMBERS],
+    n: usize,
+    q: u8,
+    at: usize,
+) -> io::Result<usize> {
     let mut contexts = [7u8; CONTEXTS];
     let r = init_pairs(&mut contexts, first_of(numbers, n), q);
     if r == 0 {
-        return accepted(s, at, &contexts);
+        return accepted(out, s, at, &contexts);
     }
-    let to = answer::refusal(s, at, r);
+    let to = answer::refusal(out, s, at, r)?;
     answer::unless(
+        out,
         s,
         to,
         same_contexts(&contexts, &[7u8; CONTEXTS]),
@@ -182,11 +247,11 @@ fn initial(s: &[u8], numbers: &[i32; NUMBERS], n: usize, q: u8, at: usize) -> us
     )
 }
 
-pub fn contexts(s: &[u8], q: u8, at: usize) -> usize {
+pub fn contexts(out: &impl Print, s: &[u8], q: u8, at: usize) -> io::Result<usize> {
     let mut numbers = [0i32; NUMBERS];
     let n = pairs(value(s, b"pairs"), &mut numbers);
     if n == 0 {
-        return NONE;
+        return Ok(NONE);
     }
-    initial(s, &numbers, n, q, at)
+    initial(out, s, &numbers, n, q, at)
 }

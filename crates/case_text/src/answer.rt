@@ -1,10 +1,12 @@
 // The text of an answer, piece by piece. A piece is held against the record at a place, and the place behind it is answered; behind
-// a piece that is another one there is none. At the place SHOWN a piece is written to standard output instead.
+// a piece that is another one there is none. At the place SHOWN a piece is written to the printer, which is handed down for that, instead.
 use bins::tags::CONTEXTS;
-use bytes::scan::find;
 use check::same;
+use octet_scan::find;
+use std::io;
 use text::lines::part;
 use text::write;
+use text_room::put_decimal;
 
 pub const SHOWN: usize = usize::MAX;
 
@@ -14,42 +16,48 @@ pub const OTHER: usize = SHOWN - 1;
 // The answer of a line that is no record.
 pub const NONE: usize = SHOWN - 2;
 
-pub fn text(wanted: &[u8], at: usize, piece: &[u8]) -> usize {
+pub fn text(out: &impl Print, wanted: &[u8], at: usize, piece: &[u8]) -> io::Result<usize> {
     if at == SHOWN {
-        write::text(piece);
-        return SHOWN;
+        write::text(out, piece)?;
+        return Ok(SHOWN);
     }
     if wanted.len() < at {
-        return OTHER;
+        return Ok(OTHER);
     }
     if wanted.len() - at < piece.len() {
-        return OTHER;
+        return Ok(OTHER);
     }
     let to = at + piece.len();
     if same(part(wanted, at, to), piece) {
-        to
+        Ok(to)
     } else {
-        OTHER
+        Ok(OTHER)
     }
 }
 
-pub fn decimal(wanted: &[u8], at: usize, n: u64) -> usize {
+pub fn decimal(out: &impl Print, wanted: &[u8], at: usize, n: u64) -> io::Result<usize> {
     let mut digits = [0u8; 20];
-    let k = io::decimal(n, &mut digits);
-    first_digits(wanted, at, &digits, k)
+    let k = put_decimal(n, &mut digits, 0);
+    first_digits(out, wanted, at, &digits, k)
 }
 
-fn first_digits(wanted: &[u8], at: usize, digits: &[u8; 20], n: usize) -> usize {
-    text(wanted, at, part(digits, 0, n))
+fn first_digits(
+    out: &impl Print,
+    wanted: &[u8],
+    at: usize,
+    digits: &[u8; 20],
+    n: usize,
+) -> io::Result<usize> {
+    text(out, wanted, at, part(digits, 0, n))
 }
 
 // A level or a scale: its sign and its magnitude.
-pub fn signed(wanted: &[u8], at: usize, n: i32) -> usize {
+pub fn signed(out: &impl Print, wanted: &[u8], at: usize, n: i32) -> io::Result<usize> {
     if n < 0 {
-        let to = text(wanted, at, b"-");
-        return decimal(wanted, to, write::magnitude(n));
+        let to = text(out, wanted, at, b"-")?;
+        return decimal(out, wanted, to, write::magnitude(n));
     }
-    decimal(wanted, at, write::magnitude(n))
+    decimal(out, wanted, at, write::magnitude(n))
 }
 
 // The number that a digit of a form names.
@@ -59,30 +67,46 @@ fn number_of(digit: u8, n: &[u64; 8]) -> u64 {
 }
 
 // A form: its letters as they stand, and for each $ and the digit behind it the number that has this place.
-pub fn form(wanted: &[u8], at: usize, f: &[u8], n: &[u64; 8]) -> usize {
+pub fn form(
+    out: &impl Print,
+    wanted: &[u8],
+    at: usize,
+    f: &[u8],
+    n: &[u64; 8],
+) -> io::Result<usize> {
     let mut to = at;
     let mut i: usize = 0;
     while i < f.len() {
         let end = find(f, i, f.len(), b'$');
-        to = text(wanted, to, part(f, i, end));
+        to = text(out, wanted, to, part(f, i, end))?;
         if f.len() - end < 2 {
-            return to;
+            return Ok(to);
         }
-        to = decimal(wanted, to, number_of(f[end + 1], n));
+        to = decimal(out, wanted, to, number_of(f[end + 1], n))?;
         i = end + 2;
     }
-    to
+    Ok(to)
 }
 
 // A number of the answer alone: of a refusal.
-pub fn refusal(wanted: &[u8], at: usize, n: u32) -> usize {
-    let to = text(wanted, at, b"answer=");
-    decimal(wanted, to, n as u64)
+pub fn refusal(out: &impl Print, wanted: &[u8], at: usize, n: u32) -> io::Result<usize> {
+    let to = text(out, wanted, at, b"answer=")?;
+    decimal(out, wanted, to, n as u64)
 }
 
 // What must not be is said where it is, so that the answer is another one.
-pub fn unless(wanted: &[u8], at: usize, right: bool, piece: &[u8]) -> usize {
-    if right { at } else { text(wanted, at, piece) }
+pub fn unless(
+    out: &impl Print,
+    wanted: &[u8],
+    at: usize,
+    right: bool,
+    piece: &[u8],
+) -> io::Result<usize> {
+    if right {
+        Ok(at)
+    } else {
+        text(out, wanted, at, piece)
+    }
 }
 
 fn glyph(digit: u8) -> u8 {
@@ -95,63 +119,83 @@ fn glyph(digit: u8) -> u8 {
     b'?'
 }
 
-fn octet(wanted: &[u8], at: usize, b: u8) -> usize {
+fn octet(out: &impl Print, wanted: &[u8], at: usize, b: u8) -> io::Result<usize> {
     let pair = [glyph(b / 16), glyph(b % 16)];
-    text(wanted, at, &pair)
+    text(out, wanted, at, &pair)
 }
 
 // Bytes in hexadecimal.
-pub fn bytes(wanted: &[u8], at: usize, s: &[u8]) -> usize {
+pub fn bytes(out: &impl Print, wanted: &[u8], at: usize, s: &[u8]) -> io::Result<usize> {
     let mut to = at;
     let mut i: usize = 0;
     while i < s.len() {
-        to = octet(wanted, to, s[i]);
+        to = octet(out, wanted, to, s[i])?;
         i += 1;
     }
-    to
+    Ok(to)
 }
 
 // The place of an entry, behind a comma where it is not the first of those that begin at a place.
-pub fn place(wanted: &[u8], at: usize, first: bool, n: usize) -> usize {
-    let from = unless(wanted, at, first, b",");
-    let to = decimal(wanted, from, n as u64);
-    text(wanted, to, b":")
+pub fn place(
+    out: &impl Print,
+    wanted: &[u8],
+    at: usize,
+    first: bool,
+    n: usize,
+) -> io::Result<usize> {
+    let from = unless(out, wanted, at, first, b",")?;
+    let to = decimal(out, wanted, from, n as u64)?;
+    text(out, wanted, to, b":")
 }
 
-fn change(wanted: &[u8], at: usize, first: bool, n: usize, context: u8) -> usize {
-    octet(wanted, place(wanted, at, first, n), context)
+fn change(
+    out: &impl Print,
+    wanted: &[u8],
+    at: usize,
+    first: bool,
+    n: usize,
+    context: u8,
+) -> io::Result<usize> {
+    octet(out, wanted, place(out, wanted, at, first, n)?, context)
 }
 
 // The contexts that are not what they were.
-pub fn changes(wanted: &[u8], at: usize, before: &[u8], after: &[u8]) -> usize {
-    let mut to = text(wanted, at, b" changes=");
+pub fn changes(
+    out: &impl Print,
+    wanted: &[u8],
+    at: usize,
+    before: &[u8],
+    after: &[u8],
+) -> io::Result<usize> {
+    let mut to = text(out, wanted, at, b" changes=")?;
     let mut none = true;
     let mut i: usize = 0;
     while i < before.len() {
         if after.len() <= i {
-            return OTHER;
+            return Ok(OTHER);
         }
         if before[i] != after[i] {
-            to = change(wanted, to, none, i, after[i]);
+            to = change(out, wanted, to, none, i, after[i])?;
             none = false;
         }
         i += 1;
     }
-    unless(wanted, to, !none, b"-")
+    unless(out, wanted, to, !none, b"-")
 }
 
 // The same of the contexts that are lent to a reader.
 pub fn contexts(
+    out: &impl Print,
     wanted: &[u8],
     at: usize,
     before: &[u8; CONTEXTS],
     after: &[u8; CONTEXTS],
-) -> usize {
-    changes(wanted, at, before, after)
+) -> io::Result<usize> {
+    changes(out, wanted, at, before, after)
 }
 
-pub fn statistics(wanted: &[u8], at: usize, s: &[u8; 4]) -> usize {
-    bytes(wanted, text(wanted, at, b" stats="), s)
+pub fn statistics(out: &impl Print, wanted: &[u8], at: usize, s: &[u8; 4]) -> io::Result<usize> {
+    bytes(out, wanted, text(out, wanted, at, b" stats=")?, s)
 }
 
 pub fn same_contexts(a: &[u8; CONTEXTS], b: &[u8; CONTEXTS]) -> bool {

@@ -2,11 +2,11 @@
 use crate::record::{value, which};
 use bins::places::BitPlace;
 use bins::state::Engine;
-use bytes::scan::find;
 use cabac::answers::State;
 use cabac_engine::engine::start;
 use case_lent::lent::LIST;
 use hevc_residual::params::{Params, Rdpcm};
+use octet_scan::find;
 use text::lines::part;
 use text_fields::fields::{Number, Octets, decimal, field};
 use text_octets::octets::hex_bytes;

@@ -1,6 +1,6 @@
 // A record: kind key=value key=value .. => result.
-use bytes::scan::find;
 use check::same;
+use octet_scan::find;
 use text::lines::part;
 
 // What `which` answers of a word that is none of them.

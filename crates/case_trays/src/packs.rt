@@ -27,6 +27,7 @@ use hevc_scale::entries::{read_scale, read_scale_bins};
 use hevc_tray_packer::entries::pack_tray;
 use hevc_tray_reader::entries::read_tray;
 use packer::list::Packing;
+use std::io;
 use text::lines::part;
 
 // The place behind terminate; none where the bin is 0, or where it draws past the end.
@@ -44,19 +45,21 @@ fn bits(bytes: &[u8], e: Engine) -> usize {
 
 // A payload, from whose start a reader came to a state, with the contexts behind it.
 fn said(
+    out: &impl Print,
     s: &[u8],
     at: usize,
     bytes: &[u8],
     e: Engine,
     contexts: &[u8; CONTEXTS],
     after: &[u8; CONTEXTS],
-) -> usize {
+) -> io::Result<usize> {
     let n = [bytes.len() as u64, bits(bytes, e) as u64, 0, 0, 0, 0, 0, 0];
-    let to = answer::form(s, at, b"length=$0 bits=$1 payload=", &n);
-    answer::contexts(s, answer::bytes(s, to, bytes), contexts, after)
+    let to = answer::form(out, s, at, b"length=$0 bits=$1 payload=", &n)?;
+    answer::contexts(out, s, answer::bytes(out, s, to, bytes)?, contexts, after)
 }
 
 fn again(
+    out: &impl Print,
     s: &[u8],
     bytes: &[u8],
     e: Engine,
@@ -65,21 +68,22 @@ fn again(
     stats: &[u8; 4],
     list: &[u8],
     at: usize,
-) -> usize {
+) -> io::Result<usize> {
     let mut block = [0i32; PLACES];
     let mut after = *contexts;
     let mut left = *stats;
     let Read::Block(f, next) = residual_coding(bytes, e, &mut after, &mut left, p, &mut block)
     else {
-        return answer::text(s, at, b"block=refused");
+        return answer::text(out, s, at, b"block=refused");
     };
-    let head = answer::text(s, at, b"answer=0 ");
-    let to = said(s, head, bytes, next, contexts, &after);
+    let head = answer::text(out, s, at, b"answer=0 ")?;
+    let to = said(out, s, head, bytes, next, contexts, &after)?;
     let right = is_list_of(false, p, stats, &block, f, list, &left);
-    answer::unless(s, to, right, b" again=differs")
+    answer::unless(out, s, to, right, b" again=differs")
 }
 
 fn packed(
+    out: &impl Print,
     s: &[u8],
     list: &[u8],
     p: Params,
@@ -87,39 +91,46 @@ fn packed(
     stats: &[u8; 4],
     length: usize,
     at: usize,
-) -> usize {
+) -> io::Result<usize> {
     let mut room = [BLANK; LIST];
     match pack_bins(contexts, stats, p, list, room_of(&mut room, length)) {
         Packing::Payload(n) => {
             let bytes = part(&room, 0, n);
             let to = match start(bytes) {
-                State::Ready(e) => again(s, bytes, e, p, contexts, stats, list, at),
-                State::Refused(_) => answer::text(s, at, b"start=refused"),
+                State::Ready(e) => again(out, s, bytes, e, p, contexts, stats, list, at)?,
+                State::Refused(_) => answer::text(out, s, at, b"start=refused")?,
             };
-            answer::unless(s, to, is_blank_from(&room, n), b" room=changed")
+            answer::unless(out, s, to, is_blank_from(&room, n), b" room=changed")
         }
         Packing::Refused(n) => {
-            let to = answer::refusal(s, at, n);
-            answer::unless(s, to, is_blank_from(&room, 0), b" room=changed")
+            let to = answer::refusal(out, s, at, n)?;
+            answer::unless(out, s, to, is_blank_from(&room, 0), b" room=changed")
         }
     }
 }
 
-pub fn pack(s: &[u8], list: &[u8], length: usize, at: usize) -> usize {
+pub fn pack(
+    out: &impl Print,
+    s: &[u8],
+    list: &[u8],
+    length: usize,
+    at: usize,
+) -> io::Result<usize> {
     let mut contexts = [64u8; CONTEXTS];
     let mut stats = [0u8; 4];
     let lent = given::lent(value(s, b"ctx"), &mut contexts);
     if !(given::lent(value(s, b"stats"), &mut stats) & lent) {
-        return NONE;
+        return Ok(NONE);
     }
     match given::params(value(s, b"p")) {
-        Chosen::Are(p) => packed(s, list, p, &contexts, &stats, length, at),
-        Chosen::Missing => NONE,
+        Chosen::Are(p) => packed(out, s, list, p, &contexts, &stats, length, at),
+        Chosen::Missing => Ok(NONE),
     }
 }
 
 // The scale that is read from the payload is the one that its list has.
 fn scale_again(
+    out: &impl Print,
     s: &[u8],
     bytes: &[u8],
     e: Engine,
@@ -127,54 +138,69 @@ fn scale_again(
     contexts: &[u8; CONTEXTS],
     list: &[u8],
     at: usize,
-) -> usize {
+) -> io::Result<usize> {
     let mut after = *contexts;
     let hevc_scale::entries::Read::Scale(z, next) = read_scale(bytes, e, &mut after, component)
     else {
-        return answer::text(s, at, b"scale=refused");
+        return answer::text(out, s, at, b"scale=refused");
     };
-    let head = answer::text(s, at, b"answer=0 ");
-    let to = said(s, head, bytes, next, contexts, &after);
+    let head = answer::text(out, s, at, b"answer=0 ")?;
+    let to = said(out, s, head, bytes, next, contexts, &after)?;
     match read_scale_bins(list, component) {
-        hevc_scale::entries::ReadList::Scale(y) => answer::unless(s, to, y == z, b" again=differs"),
-        hevc_scale::entries::ReadList::Refused(_) => answer::text(s, to, b" list=refused"),
+        hevc_scale::entries::ReadList::Scale(y) => answer::unless(
+            out,
+            s,
+            to,
+            y == z,
+            b" again=differs",
+        ),
+        hevc_scale::entries::ReadList::Refused(_) => answer::text(out, s, to, b" list=refused"),
     }
 }
 
 fn scale_packed(
+    out: &impl Print,
     s: &[u8],
     list: &[u8],
     component: u32,
     contexts: &[u8; CONTEXTS],
     length: usize,
     at: usize,
-) -> usize {
+) -> io::Result<usize> {
     let mut room = [BLANK; LIST];
     match pack_scale(contexts, component, list, room_of(&mut room, length)) {
         Packing::Payload(n) => {
             let bytes = part(&room, 0, n);
             let to = match start(bytes) {
-                State::Ready(e) => scale_again(s, bytes, e, component, contexts, list, at),
-                State::Refused(_) => answer::text(s, at, b"start=refused"),
+                State::Ready(e) => scale_again(out, s, bytes, e, component, contexts, list, at)?,
+                State::Refused(_) => answer::text(out, s, at, b"start=refused")?,
             };
-            answer::unless(s, to, is_blank_from(&room, n), b" room=changed")
+            answer::unless(out, s, to, is_blank_from(&room, n), b" room=changed")
         }
         Packing::Refused(n) => {
-            let to = answer::refusal(s, at, n);
-            answer::unless(s, to, is_blank_from(&room, 0), b" room=changed")
+            let to = answer::refusal(out, s, at, n)?;
+            answer::unless(out, s, to, is_blank_from(&room, 0), b" room=changed")
         }
     }
 }
 
-pub fn scale(s: &[u8], list: &[u8], component: u32, length: usize, at: usize) -> usize {
+pub fn scale(
+    out: &impl Print,
+    s: &[u8],
+    list: &[u8],
+    component: u32,
+    length: usize,
+    at: usize,
+) -> io::Result<usize> {
     let mut contexts = [64u8; CONTEXTS];
     if given::lent(value(s, b"ctx"), &mut contexts) {
-        return scale_packed(s, list, component, &contexts, length, at);
+        return scale_packed(out, s, list, component, &contexts, length, at);
     }
-    NONE
+    Ok(NONE)
 }
 
 fn tray_again(
+    out: &impl Print,
     s: &[u8],
     bytes: &[u8],
     e: Engine,
@@ -182,7 +208,7 @@ fn tray_again(
     stats: &[u8; 4],
     rows: &[[u8; 14]],
     at: usize,
-) -> usize {
+) -> io::Result<usize> {
     let mut places = [0i32; LEVELS];
     let mut found = [[0u32; 5]; ROWS];
     let mut after = *contexts;
@@ -198,12 +224,13 @@ fn tray_again(
     );
     let right = (t.number == 0) & (t.done == rows.len());
     let end = t.state;
-    let to = said(s, at, bytes, end, contexts, &after);
-    let to = answer::statistics(s, to, &left);
-    answer::unless(s, to, right, b" again=differs")
+    let to = said(out, s, at, bytes, end, contexts, &after)?;
+    let to = answer::statistics(out, s, to, &left)?;
+    answer::unless(out, s, to, right, b" again=differs")
 }
 
 fn tray_packed(
+    out: &impl Print,
     s: &[u8],
     list: &[u8],
     contexts: &[u8; CONTEXTS],
@@ -212,7 +239,7 @@ fn tray_packed(
     count: usize,
     length: usize,
     at: usize,
-) -> usize {
+) -> io::Result<usize> {
     let mut room = [BLANK; LIST];
     let few = first_rows(rows, count);
     let r = pack_tray(contexts, stats, few, list, room_of(&mut room, length));
@@ -222,37 +249,45 @@ fn tray_packed(
         Packing::Payload(n) => {
             let bytes = part(&room, 0, n);
             let to = answer::form(
+                out,
                 s,
                 at,
                 b"answer=0 done=$0 ",
                 &[done as u64, 0, 0, 0, 0, 0, 0, 0],
-            );
+            )?;
             let to = match start(bytes) {
-                State::Ready(e) => tray_again(s, bytes, e, contexts, stats, few, to),
-                State::Refused(_) => answer::text(s, to, b"start=refused"),
+                State::Ready(e) => tray_again(out, s, bytes, e, contexts, stats, few, to)?,
+                State::Refused(_) => answer::text(out, s, to, b"start=refused")?,
             };
-            answer::unless(s, to, is_blank_from(&room, n), b" room=changed")
+            answer::unless(out, s, to, is_blank_from(&room, n), b" room=changed")
         }
         Packing::Refused(n) => {
             let to = answer::form(
+                out,
                 s,
                 at,
                 b"answer=$1 done=$0",
                 &[done as u64, n as u64, 0, 0, 0, 0, 0, 0],
-            );
-            answer::unless(s, to, is_blank_from(&room, 0), b" room=changed")
+            )?;
+            answer::unless(out, s, to, is_blank_from(&room, 0), b" room=changed")
         }
     }
 }
 
-pub fn tray(s: &[u8], list: &[u8], length: usize, at: usize) -> usize {
+pub fn tray(
+    out: &impl Print,
+    s: &[u8],
+    list: &[u8],
+    length: usize,
+    at: usize,
+) -> io::Result<usize> {
     let mut contexts = [64u8; CONTEXTS];
     let mut stats = [0u8; 4];
     let mut rows = [[0u8; 14]; ROWS];
     let count = records_or_none(value(s, b"records"), &mut rows);
     let lent = given::lent(value(s, b"ctx"), &mut contexts);
     if given::lent(value(s, b"stats"), &mut stats) & lent & (count <= ROWS) {
-        return tray_packed(s, list, &contexts, &stats, &rows, count, length, at);
+        return tray_packed(out, s, list, &contexts, &stats, &rows, count, length, at);
     }
-    NONE
+    Ok(NONE)
 }

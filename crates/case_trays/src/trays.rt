@@ -7,7 +7,6 @@
 // zero for the part of a refused block, and untouched for all parts behind.
 use bins::state::Engine;
 use bins::tags::CONTEXTS;
-use bytes::scan::find;
 use case_blocks::blocks::{area, direction, levels};
 use case_blocks::engine;
 use case_lent::lent::{MARK, front, holds};
@@ -18,6 +17,8 @@ use case_text::{answer, given};
 use check::same;
 use hevc_tray::entries::Tray;
 use hevc_tray_reader::entries::read_tray;
+use octet_scan::find;
+use std::io;
 use text::lines::part;
 
 // How many records a tray has at most: more than are accepted. As many rows are lent for what is found.
@@ -122,7 +123,7 @@ pub fn first_rows(rows: &[[u8; 14]], n: usize) -> &[[u8; 14]] {
 }
 
 // A row of what is found, behind a semicolon where it is not the first.
-fn row(s: &[u8], at: usize, first: bool, r: [u32; 5]) -> usize {
+fn row(out: &impl Print, s: &[u8], at: usize, first: bool, r: [u32; 5]) -> io::Result<usize> {
     let n = [
         r[0] as u64,
         r[2] as u64,
@@ -133,9 +134,9 @@ fn row(s: &[u8], at: usize, first: bool, r: [u32; 5]) -> usize {
         0,
         0,
     ];
-    let head = answer::form(s, answer::unless(s, at, first, b";"), b"$0:", &n);
-    let to = direction(s, head, r[1]);
-    answer::form(s, to, b":$1:$2:$3", &n)
+    let head = answer::form(out, s, answer::unless(out, s, at, first, b";")?, b"$0:", &n)?;
+    let to = direction(out, s, head, r[1])?;
+    answer::form(out, s, to, b":$1:$2:$3", &n)
 }
 
 fn is_marked(r: [u32; 5]) -> bool {
@@ -147,18 +148,24 @@ fn is_marked(r: [u32; 5]) -> bool {
 }
 
 // The rows of the blocks done; those behind are as they were.
-fn found(s: &[u8], at: usize, rows: &[[u32; 5]; ROWS], done: usize) -> usize {
-    let mut to = answer::text(s, at, b" found=");
+fn found(
+    out: &impl Print,
+    s: &[u8],
+    at: usize,
+    rows: &[[u32; 5]; ROWS],
+    done: usize,
+) -> io::Result<usize> {
+    let mut to = answer::text(out, s, at, b" found=")?;
     let mut i: usize = 0;
     while i < ROWS {
         to = if i < done {
-            row(s, to, i == 0, rows[i])
+            row(out, s, to, i == 0, rows[i])?
         } else {
-            answer::unless(s, to, is_marked(rows[i]), b" row=changed")
+            answer::unless(out, s, to, is_marked(rows[i]), b" row=changed")?
         };
         i += 1;
     }
-    answer::unless(s, to, 0 < done, b"-")
+    answer::unless(out, s, to, 0 < done, b"-")
 }
 
 // Where the part ends that begins at a place; at the end of the buffer where that has less left.
@@ -174,20 +181,34 @@ fn end_of(from: usize, log2: u8) -> usize {
 }
 
 // The part of a refused block.
-fn zeros(s: &[u8], at: usize, places: &[i32], from: usize, end: usize) -> usize {
+fn zeros(
+    out: &impl Print,
+    s: &[u8],
+    at: usize,
+    places: &[i32],
+    from: usize,
+    end: usize,
+) -> io::Result<usize> {
     if holds(places, from, end, 0) {
-        return answer::text(s, at, b"zero");
+        return answer::text(out, s, at, b"zero");
     }
-    answer::text(s, at, b"changed")
+    answer::text(out, s, at, b"changed")
 }
 
 // All places from one on are as they were.
-fn rest(s: &[u8], at: usize, places: &[i32], from: usize) -> usize {
-    answer::unless(s, at, holds(places, from, LEVELS, MARK), b" behind=changed")
+fn rest(out: &impl Print, s: &[u8], at: usize, places: &[i32], from: usize) -> io::Result<usize> {
+    answer::unless(
+        out,
+        s,
+        at,
+        holds(places, from, LEVELS, MARK),
+        b" behind=changed",
+    )
 }
 
 // What stands behind the parts of the blocks done, where so many are left.
 fn behind(
+    out: &impl Print,
     s: &[u8],
     at: usize,
     places: &[i32],
@@ -195,26 +216,36 @@ fn behind(
     number: u32,
     left: usize,
     log2: u8,
-) -> usize {
+) -> io::Result<usize> {
     if (number == 7) | (number == 8) {
         let end = end_of(from, log2);
-        let zero = zeros(s, answer::unless(s, at, from == 0, b";"), places, from, end);
-        return rest(
+        let zero = zeros(
+            out,
             s,
-            answer::unless(s, zero, left < 2, b";untouched"),
+            answer::unless(out, s, at, from == 0, b";")?,
+            places,
+            from,
+            end,
+        )?;
+        return rest(
+            out,
+            s,
+            answer::unless(out, s, zero, left < 2, b";untouched")?,
             places,
             end,
         );
     }
     rest(
+        out,
         s,
-        answer::unless(s, at, number == 0, b"untouched"),
+        answer::unless(out, s, at, number == 0, b"untouched")?,
         places,
         from,
     )
 }
 
 fn parts(
+    out: &impl Print,
     s: &[u8],
     at: usize,
     rows: &[[u8; 14]; ROWS],
@@ -222,43 +253,52 @@ fn parts(
     number: u32,
     done: usize,
     places: &[i32],
-) -> usize {
-    let mut to = answer::text(s, at, b" parts=");
+) -> io::Result<usize> {
+    let mut to = answer::text(out, s, at, b" parts=")?;
     let mut from: usize = 0;
     let mut i: usize = 0;
     while i < ROWS {
         if done <= i {
             if count < i {
-                return OTHER;
+                return Ok(OTHER);
             }
-            return behind(s, to, places, from, number, count - i, rows[i][0]);
+            return behind(out, s, to, places, from, number, count - i, rows[i][0]);
         }
         let end = end_of(from, rows[i][0]);
-        to = levels(s, answer::unless(s, to, i == 0, b";"), places, from, end);
+        to = levels(
+            out,
+            s,
+            answer::unless(out, s, to, i == 0, b";")?,
+            places,
+            from,
+            end,
+        )?;
         from = end;
         i += 1;
     }
-    OTHER
+    Ok(OTHER)
 }
 
 // The state, contexts and statistics that the last block done left.
 fn told(
+    out: &impl Print,
     s: &[u8],
     at: usize,
     t: Tray,
     contexts: &[u8; CONTEXTS],
     after: &[u8; CONTEXTS],
     stats: &[u8; 4],
-) -> usize {
+) -> io::Result<usize> {
     let e = t.state;
     let n = [t.number as u64, t.done as u64, 0, 0, 0, 0, 0, 0];
-    let to = answer::form(s, at, b"answer=$0 done=$1", &n);
-    let to = engine::state(s, to, b" state=$1,$2,$3,$4,$5", 0, e, 0);
-    let to = answer::contexts(s, to, contexts, after);
-    answer::statistics(s, to, stats)
+    let to = answer::form(out, s, at, b"answer=$0 done=$1", &n)?;
+    let to = engine::state(out, s, to, b" state=$1,$2,$3,$4,$5", 0, e, 0)?;
+    let to = answer::contexts(out, s, to, contexts, after)?;
+    answer::statistics(out, s, to, stats)
 }
 
 fn read(
+    out: &impl Print,
     s: &[u8],
     bytes: &[u8],
     e: Engine,
@@ -268,7 +308,7 @@ fn read(
     count: usize,
     lent: usize,
     at: usize,
-) -> usize {
+) -> io::Result<usize> {
     let mut places = [MARK; LEVELS];
     let mut found_rows = [[ROW_MARK; 5]; ROWS];
     let mut after = *contexts;
@@ -284,20 +324,29 @@ fn read(
     );
     let number = t.number;
     let done = t.done;
-    let to = told(s, at, t, contexts, &after, &left);
-    let to = found(s, to, &found_rows, done);
-    let to = parts(s, to, rows, count, number, done, &places);
-    answer::unless(s, to, 0 < count, b"-")
+    let to = told(out, s, at, t, contexts, &after, &left)?;
+    let to = found(out, s, to, &found_rows, done)?;
+    let to = parts(out, s, to, rows, count, number, done, &places)?;
+    answer::unless(out, s, to, 0 < count, b"-")
 }
 
-pub fn tray(s: &[u8], bytes: &[u8], e: Engine, places: usize, at: usize) -> usize {
+pub fn tray(
+    out: &impl Print,
+    s: &[u8],
+    bytes: &[u8],
+    e: Engine,
+    places: usize,
+    at: usize,
+) -> io::Result<usize> {
     let mut contexts = [64u8; CONTEXTS];
     let mut stats = [0u8; 4];
     let mut rows = [[0u8; 14]; ROWS];
     let count = records_or_none(value(s, b"records"), &mut rows);
     let lent = given::lent(value(s, b"ctx"), &mut contexts);
     if given::lent(value(s, b"stats"), &mut stats) & lent & (count <= ROWS) {
-        return read(s, bytes, e, &contexts, &stats, &rows, count, places, at);
+        return read(
+            out, s, bytes, e, &contexts, &stats, &rows, count, places, at,
+        );
     }
-    NONE
+    Ok(NONE)
 }

@@ -11,6 +11,7 @@ use case_text::record::{first, is_by, value, which};
 use case_text::{answer, given};
 use case_trays::{packs, trays};
 use check::same;
+use std::io;
 use text::lines::part;
 use text_fields::fields::Octets;
 use text_octets::octets::hex_bytes;
@@ -109,15 +110,24 @@ fn taken(s: &[u8], bytes: &mut [u8; LIST]) -> Octets {
 }
 
 // By the kind's number among those with a state; those before blocks are the engine's.
-fn of_state(kind: usize, s: &[u8], bytes: &[u8], e: Engine, n: &[u32; 8], at: usize) -> usize {
+fn of_state(
+    out: &impl Print,
+    kind: usize,
+    s: &[u8],
+    bytes: &[u8],
+    e: Engine,
+    n: &[u32; 8],
+    at: usize,
+) -> io::Result<usize> {
     match kind {
-        8 => blocks::block(s, false, bytes, e, given::size(n[given::LENT]), at),
-        9 => scales::payload(s, bytes, e, n[given::COMPONENT], at),
-        10 => slices::slice(s, bytes, e, at),
-        11 => blocks::block(s, true, bytes, e, given::size(n[given::LENT]), at),
-        12 => trays::tray(s, bytes, e, given::size(n[given::LENT]), at),
-        13 => h264::payload(s, bytes, e, given::size(n[given::LENT]), at),
+        8 => blocks::block(out, s, false, bytes, e, given::size(n[given::LENT]), at),
+        9 => scales::payload(out, s, bytes, e, n[given::COMPONENT], at),
+        10 => slices::slice(out, s, bytes, e, at),
+        11 => blocks::block(out, s, true, bytes, e, given::size(n[given::LENT]), at),
+        12 => trays::tray(out, s, bytes, e, given::size(n[given::LENT]), at),
+        13 => h264::payload(out, s, bytes, e, given::size(n[given::LENT]), at),
         _ => engine::answered(
+            out,
             kind,
             s,
             bytes,
@@ -129,39 +139,66 @@ fn of_state(kind: usize, s: &[u8], bytes: &[u8], e: Engine, n: &[u32; 8], at: us
     }
 }
 
-fn of_payload(kind: usize, s: &[u8], bytes: &[u8], n: &[u32; 8], at: usize) -> usize {
+fn of_payload(
+    out: &impl Print,
+    kind: usize,
+    s: &[u8],
+    bytes: &[u8],
+    n: &[u32; 8],
+    at: usize,
+) -> io::Result<usize> {
     match given::state(value(s, b"state"), bytes) {
-        Handed::Is(e) => of_state(kind, s, bytes, e, n, at),
-        Handed::Refused(m) => answer::text(s, answer::refusal(s, at, m), b" at=start"),
-        Handed::Missing => NONE,
+        Handed::Is(e) => of_state(out, kind, s, bytes, e, n, at),
+        Handed::Refused(m) => answer::text(out, s, answer::refusal(out, s, at, m)?, b" at=start"),
+        Handed::Missing => Ok(NONE),
     }
 }
 
 // By the kind's number among those without a state: in two functions, since one of so many arms is dear to prove.
-fn of_other(kind: usize, s: &[u8], bytes: &[u8], n: &[u32; 8], at: usize) -> usize {
+fn of_other(
+    out: &impl Print,
+    kind: usize,
+    s: &[u8],
+    bytes: &[u8],
+    n: &[u32; 8],
+    at: usize,
+) -> io::Result<usize> {
     match kind {
-        0 => engine::ready(s, at, start(bytes)),
-        1 => blocks::list(s, false, bytes, given::size(n[given::LENT]), at),
-        2 => writes::write(s, false, n, at),
-        3 => scales::list(s, bytes, n[given::COMPONENT], at),
-        4 => scales::write(s, n, at),
-        5 => values::contexts(s, bytes, (n[given::QUANTISER] % 256) as u8, at),
-        6 => blocks::list(s, true, bytes, given::size(n[given::LENT]), at),
-        _ => of_later(kind, s, bytes, n, at),
+        0 => engine::ready(out, s, at, start(bytes)),
+        1 => blocks::list(out, s, false, bytes, given::size(n[given::LENT]), at),
+        2 => writes::write(out, s, false, n, at),
+        3 => scales::list(out, s, bytes, n[given::COMPONENT], at),
+        4 => scales::write(out, s, n, at),
+        5 => values::contexts(out, s, bytes, (n[given::QUANTISER] % 256) as u8, at),
+        6 => blocks::list(out, s, true, bytes, given::size(n[given::LENT]), at),
+        _ => of_later(out, kind, s, bytes, n, at),
     }
 }
 
-fn of_later(kind: usize, s: &[u8], bytes: &[u8], n: &[u32; 8], at: usize) -> usize {
+fn of_later(
+    out: &impl Print,
+    kind: usize,
+    s: &[u8],
+    bytes: &[u8],
+    n: &[u32; 8],
+    at: usize,
+) -> io::Result<usize> {
     let room = given::size(n[given::ROOM]);
     match kind {
-        7 => writes::write(s, true, n, at),
-        8 => packs::pack(s, bytes, room, at),
-        9 => h264::list(s, bytes, given::size(n[given::LENT]), at),
-        10 => h264::write(s, room, given::size(n[given::LENT]), at),
-        11 => h264::contexts(s, (n[given::QUANTISER] % 256) as u8, at),
-        12 => packs::scale(s, bytes, n[given::COMPONENT], room, at),
-        13 => packs::tray(s, bytes, room, at),
-        _ => values::value(s, (n[given::VALUE] % 256) as u8, n[given::QUANTISER], at),
+        7 => writes::write(out, s, true, n, at),
+        8 => packs::pack(out, s, bytes, room, at),
+        9 => h264::list(out, s, bytes, given::size(n[given::LENT]), at),
+        10 => h264::write(out, s, room, given::size(n[given::LENT]), at),
+        11 => h264::contexts(out, s, (n[given::QUANTISER] % 256) as u8, at),
+        12 => packs::scale(out, s, bytes, n[given::COMPONENT], room, at),
+        13 => packs::tray(out, s, bytes, room, at),
+        _ => values::value(
+            out,
+            s,
+            (n[given::VALUE] % 256) as u8,
+            n[given::QUANTISER],
+            at,
+        ),
     }
 }
 
@@ -173,29 +210,29 @@ fn lendable(kind: &[u8]) -> u32 {
     PLACES as u32
 }
 
-fn answered(s: &[u8], bytes: &[u8], at: usize) -> usize {
+fn answered(out: &impl Print, s: &[u8], bytes: &[u8], at: usize) -> io::Result<usize> {
     let mut n = [0u32; 8];
     if !given::numbers(s, lendable(first(s)), &mut n) {
-        return NONE;
+        return Ok(NONE);
     }
     let kind = which(
         b"decision bypass single raw terminate align restart alignbypass block cross slice plainblock tray h264",
         first(s),
     );
     if kind < 14 {
-        return of_payload(kind, s, bytes, &n, at);
+        return of_payload(out, kind, s, bytes, &n, at);
     }
     let kind = which(
         b"start list write crosslist crosswrite init plainlist plainwrite pack h264list h264write h264init packscale packtray initvalue",
         first(s),
     );
-    of_other(kind, s, bytes, &n, at)
+    of_other(out, kind, s, bytes, &n, at)
 }
 
 // The answer to a record, held against its text from a place on.
-pub fn answer(s: &[u8], at: usize, bytes: &mut [u8; LIST]) -> usize {
+pub fn answer(out: &impl Print, s: &[u8], at: usize, bytes: &mut [u8; LIST]) -> io::Result<usize> {
     match taken(s, bytes) {
-        Octets::Are(n) => answered(s, part(bytes, 0, n), at),
-        Octets::Missing => NONE,
+        Octets::Are(n) => answered(out, s, part(bytes, 0, n), at),
+        Octets::Missing => Ok(NONE),
     }
 }

@@ -26,6 +26,8 @@ mod values; // values.rt: initialisation
 use case_lent::lent::LIST;
 use case_text::answer::{NONE, SHOWN};
 use case_text::record;
+use std::io;
+use std::io::Read;
 use text::lines::{Line, Window, part};
 use text::{lines, write};
 
@@ -55,36 +57,37 @@ fn count(tally: &mut [u32; 6], k: usize) {
 }
 
 // A number of the tally, with what it counts.
-fn said(n: u32, what: &[u8]) {
-    write::decimal32(n);
-    write::text(what);
+fn said(out: &impl Print, n: u32, what: &[u8]) -> io::Result<()> {
+    write::decimal32(out, n)?;
+    write::text(out, what)
 }
 
-fn agreed(tally: &mut [u32; 6]) {
+fn agreed(out: &impl Print, tally: &mut [u32; 6]) -> io::Result<()> {
     if 0 < tally[AGREES] {
-        said(tally[AGREES], b" ok\n");
+        said(out, tally[AGREES], b" ok\n")?;
         tally[AGREES] = 0;
     }
+    Ok(())
 }
 
-fn total(tally: &mut [u32; 6]) {
-    agreed(tally);
-    said(tally[OTHER], b" lines are no records, ");
-    said(tally[LATER], b" are records of later requests\n");
-    said(tally[RECORDS], b" records, ");
-    said(tally[WRONG], b" wrong\n");
+fn total(out: &impl Print, tally: &mut [u32; 6]) -> io::Result<()> {
+    agreed(out, tally)?;
+    said(out, tally[OTHER], b" lines are no records, ")?;
+    said(out, tally[LATER], b" are records of later requests\n")?;
+    said(out, tally[RECORDS], b" records, ")?;
+    said(out, tally[WRONG], b" wrong\n")
 }
 
 // A line of output: a word before a text.
-fn told(word: &[u8], s: &[u8]) {
-    write::text(word);
-    write::line(s);
+fn told(out: &impl Print, word: &[u8], s: &[u8]) -> io::Result<()> {
+    write::text(out, word)?;
+    write::line(out, s)
 }
 
 // Of a long line its first letters.
-fn no_record(s: &[u8]) -> usize {
-    told(b"not a record: ", part(s, 0, 160));
-    OTHER
+fn no_record(out: &impl Print, s: &[u8]) -> io::Result<usize> {
+    told(out, b"not a record: ", part(s, 0, 160))?;
+    Ok(OTHER)
 }
 
 // What belongs to request (xii), the state that a refusal reached, is no part of an answer yet.
@@ -100,72 +103,90 @@ fn without_reached(s: &[u8], from: usize) -> &[u8] {
 }
 
 // The record, what was answered, and what is wanted from a place on.
-fn show(word: &[u8], s: &[u8], from: usize, bytes: &mut [u8; LIST]) {
-    told(word, part(s, 0, from));
-    write::text(b"  answered ");
-    kinds::answer(s, SHOWN, bytes);
-    told(b"\n  wanted   ", part(s, from, s.len()));
+fn show(
+    out: &impl Print,
+    word: &[u8],
+    s: &[u8],
+    from: usize,
+    bytes: &mut [u8; LIST],
+) -> io::Result<()> {
+    told(out, word, part(s, 0, from))?;
+    write::text(out, b"  answered ")?;
+    kinds::answer(out, s, SHOWN, bytes)?;
+    told(out, b"\n  wanted   ", part(s, from, s.len()))
 }
 
 // A record whose result, from a place on, is to agree or not to.
-fn judged(s: &[u8], from: usize, agrees: bool, bytes: &mut [u8; LIST]) -> usize {
-    let to = kinds::answer(s, from, bytes);
+fn judged(
+    out: &impl Print,
+    s: &[u8],
+    from: usize,
+    agrees: bool,
+    bytes: &mut [u8; LIST],
+) -> io::Result<usize> {
+    let to = kinds::answer(out, s, from, bytes)?;
     if to == NONE {
-        return no_record(s);
+        return no_record(out, s);
     }
     let same = to == s.len();
     if same & agrees {
-        return AGREES;
+        return Ok(AGREES);
     }
     if same == agrees {
-        show(b"told apart: ", s, from, bytes);
-        return AGREES;
+        show(out, b"told apart: ", s, from, bytes)?;
+        return Ok(AGREES);
     }
-    show(b"WRONG: ", s, from, bytes);
-    WRONG
+    show(out, b"WRONG: ", s, from, bytes)?;
+    Ok(WRONG)
 }
 
-fn parted(s: &[u8], agrees: bool, bytes: &mut [u8; LIST]) -> usize {
+fn parted(out: &impl Print, s: &[u8], agrees: bool, bytes: &mut [u8; LIST]) -> io::Result<usize> {
     let at = record::arrow(s);
     if s.len() <= at {
-        return no_record(s);
+        return no_record(out, s);
     }
     if s.len() - at < 5 {
-        return no_record(s);
+        return no_record(out, s);
     }
     let line = part(s, 0, at);
     if kinds::has_keys(line) {
-        return judged(without_reached(s, at + 4), at + 4, agrees, bytes);
+        return judged(out, without_reached(s, at + 4), at + 4, agrees, bytes);
     }
     if kinds::is_later(line) {
-        told(b"not a record yet: ", record::first(line));
-        return LATER;
+        told(out, b"not a record yet: ", record::first(line))?;
+        return Ok(LATER);
     }
-    no_record(s)
+    no_record(out, s)
 }
 
-fn lined(s: &[u8], bytes: &mut [u8; LIST]) -> usize {
+fn lined(out: &impl Print, s: &[u8], bytes: &mut [u8; LIST]) -> io::Result<usize> {
     if s.len() == 0 {
-        return no_record(s);
+        return no_record(out, s);
     }
     match s[0] {
-        b'#' => REMARK,
-        b'!' => parted(part(s, 1, s.len()), false, bytes),
-        _ => parted(s, true, bytes),
+        b'#' => Ok(REMARK),
+        b'!' => parted(out, part(s, 1, s.len()), false, bytes),
+        _ => parted(out, s, true, bytes),
     }
 }
 
 // A line of the input. A remark is written as it stands, behind the number of records that agreed before it.
-fn taken(tally: &mut [u32; 6], s: &[u8], bytes: &mut [u8; LIST]) {
-    let k = lined(s, bytes);
+fn taken(
+    out: &impl Print,
+    tally: &mut [u32; 6],
+    s: &[u8],
+    bytes: &mut [u8; LIST],
+) -> io::Result<()> {
+    let k = lined(out, s, bytes)?;
     count(tally, k);
     if k < OTHER {
         count(tally, RECORDS);
     }
     if k == REMARK {
-        agreed(tally);
-        write::line(s);
+        agreed(out, tally)?;
+        write::line(out, s)?;
     }
+    Ok(())
 }
 
 // What goes on from line to line. Behind the front of a line that is too long its tail is left out.
@@ -177,52 +198,73 @@ struct Held {
 }
 
 // A line that has its line feed and is no tail.
-fn whole(tally: &mut [u32; 6], s: &[u8], cut: bool, tail: bool, bytes: &mut [u8; LIST]) {
+fn whole(
+    out: &impl Print,
+    tally: &mut [u32; 6],
+    s: &[u8],
+    cut: bool,
+    tail: bool,
+    bytes: &mut [u8; LIST],
+) -> io::Result<()> {
     if tail {
-        return;
+        return Ok(());
     }
     if cut {
-        count(tally, no_record(s));
-        return;
+        count(tally, no_record(out, s)?);
+        return Ok(());
     }
-    taken(tally, s, bytes);
+    taken(out, tally, s, bytes)
 }
 
-fn turn(buffer: &mut [u8; LINE], bytes: &mut [u8; LIST], tally: &mut [u32; 6], h: Held) -> Held {
+fn turn(
+    input: &mut impl Read,
+    out: &impl Print,
+    buffer: &mut [u8; LINE],
+    bytes: &mut [u8; LIST],
+    tally: &mut [u32; 6],
+    h: Held,
+) -> io::Result<Held> {
     let window = h.window;
-    match lines::next(buffer, window) {
+    match lines::next(input, buffer, window)? {
         Line::Is(from, to, left) => {
             whole(
+                out,
                 tally,
                 part(buffer, from, to),
                 left.from == to,
                 h.tail,
                 bytes,
-            );
-            Held {
+            )?;
+            Ok(Held {
                 window: left,
                 more: true,
                 tail: false,
-            }
+            })
         }
-        Line::Ended => Held {
+        Line::Ended => Ok(Held {
             window,
             more: false,
             tail: false,
-        },
+        }),
         Line::TooLong => {
-            whole(tally, b"a line that is too long", true, h.tail, bytes);
-            Held {
+            whole(out, tally, b"a line that is too long", true, h.tail, bytes)?;
+            Ok(Held {
                 window: lines::nothing_read(),
                 more: true,
                 tail: true,
-            }
+            })
         }
     }
 }
 
 // Nothing says that the input ends: the loop counts down from a number that no run uses up.
-fn turns(buffer: &mut [u8; LINE], bytes: &mut [u8; LIST], tally: &mut [u32; 6]) {
+fn turns(
+    input: &mut impl Read,
+    out: &impl Print,
+    buffer: &mut [u8; LINE],
+    bytes: &mut [u8; LIST],
+    tally: &mut [u32; 6],
+) -> io::Result<()> {
     let mut h = Held {
         window: lines::nothing_read(),
         more: true,
@@ -230,18 +272,24 @@ fn turns(buffer: &mut [u8; LINE], bytes: &mut [u8; LIST], tally: &mut [u32; 6]) 
     };
     let mut left = u64::MAX;
     while 0 < left {
-        h = turn(buffer, bytes, tally, h);
+        h = turn(input, out, buffer, bytes, tally, h)?;
         if !h.more {
-            total(tally);
-            return;
+            return total(out, tally);
         }
         left -= 1;
     }
+    Ok(())
 }
 
-fn main() {
+fn main(rt: HostRuntime) -> io::Result<()> {
     let mut buffer = [0u8; LINE];
     let mut bytes = [0u8; LIST];
     let mut tally = [0u32; 6];
-    turns(&mut buffer, &mut bytes, &mut tally);
+    turns(
+        &mut rt.stdin(),
+        &rt.stdout(),
+        &mut buffer,
+        &mut bytes,
+        &mut tally,
+    )
 }

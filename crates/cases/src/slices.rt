@@ -13,6 +13,7 @@ use case_blocks::engine;
 use case_text::answer::NONE;
 use case_text::record::value;
 use case_text::{answer, given};
+use std::io;
 use text::lines::part;
 use text_fields::fields::Octets;
 use text_octets::octets::hex_bytes;
@@ -69,29 +70,36 @@ fn run(contexts: &mut [u8; CONTEXTS], ops: &[u8], bytes: &[u8], first: Engine) -
     Ran { bins: i, next: e }
 }
 
-fn changes(s: &[u8], at: usize, before: &[u8; CONTEXTS], after: &[u8; CONTEXTS]) -> usize {
-    answer::changes(s, at, before, after)
+fn changes(
+    out: &impl Print,
+    s: &[u8],
+    at: usize,
+    before: &[u8; CONTEXTS],
+    after: &[u8; CONTEXTS],
+) -> io::Result<usize> {
+    answer::changes(out, s, at, before, after)
 }
 
 fn from(
+    out: &impl Print,
     s: &[u8],
     bytes: &[u8],
     first: State,
     contexts: &[u8; CONTEXTS],
     ops: &[u8],
     at: usize,
-) -> usize {
+) -> io::Result<usize> {
     match first {
         State::Ready(e) => {
             let mut after = *contexts;
             let r = run(&mut after, ops, bytes, e);
             let next = r.next;
-            let to = engine::state(s, at, b"answer=0 begun=$1,$2,$3,$4,$5", 0, e, 0);
-            let to = answer::decimal(s, answer::text(s, to, b" bins="), r.bins as u64);
-            let to = engine::state(s, to, b" state=$1,$2,$3,$4,$5", 0, next, 0);
-            changes(s, to, contexts, &after)
+            let to = engine::state(out, s, at, b"answer=0 begun=$1,$2,$3,$4,$5", 0, e, 0)?;
+            let to = answer::decimal(out, s, answer::text(out, s, to, b" bins=")?, r.bins as u64)?;
+            let to = engine::state(out, s, to, b" state=$1,$2,$3,$4,$5", 0, next, 0)?;
+            changes(out, s, to, contexts, &after)
         }
-        State::Refused(n) => answer::refusal(s, at, n),
+        State::Refused(n) => answer::refusal(out, s, at, n),
     }
 }
 
@@ -104,14 +112,15 @@ fn begun(s: &[u8], bytes: &[u8], e: Engine) -> State {
     restart(bytes, e)
 }
 
-pub fn slice(s: &[u8], bytes: &[u8], e: Engine, at: usize) -> usize {
+pub fn slice(out: &impl Print, s: &[u8], bytes: &[u8], e: Engine, at: usize) -> io::Result<usize> {
     let mut contexts = [0u8; CONTEXTS];
     let mut ops = [0u8; OPERATIONS];
     if !given::lent(value(s, b"contexts"), &mut contexts) {
-        return NONE;
+        return Ok(NONE);
     }
     match hex_bytes(value(s, b"ops"), &mut ops) {
         Octets::Are(n) => from(
+            out,
             s,
             bytes,
             begun(s, bytes, e),
@@ -119,6 +128,6 @@ pub fn slice(s: &[u8], bytes: &[u8], e: Engine, at: usize) -> usize {
             part(&ops, 0, n),
             at,
         ),
-        Octets::Missing => NONE,
+        Octets::Missing => Ok(NONE),
     }
 }

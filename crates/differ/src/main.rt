@@ -16,6 +16,8 @@ use cabac_init::contexts::init_contexts;
 use frame::fields::{flags_refusal, params};
 use frame_judge::judge;
 use hevc_differ::entries::judge as judge_payloads;
+use std::io;
+use std::io::Read;
 use text::lines;
 use text::lines::{Line, Window, part};
 use text_octets::octets::hex_bytes;
@@ -59,7 +61,7 @@ fn first_other(a: &[u8], b: &[u8]) -> usize {
 }
 
 // The payloads, from the state behind the first one's start and with the contexts of the front, which is the same for both.
-fn payloads(a: &[u8], first: &[u8], second: &[u8], e: Engine)
+fn payloads(out: &impl Print, a: &[u8], first: &[u8], second: &[u8], e: Engine) -> io::Result<()>
     requires { 138 ≤ length a.now }
 {
     let mut contexts = [0u8; CONTEXTS];
@@ -67,40 +69,38 @@ fn payloads(a: &[u8], first: &[u8], second: &[u8], e: Engine)
     let block = [0i32; 1024];
     init_contexts(&mut contexts, &mut stats, part(a, 8, FRONT), byte(a, 4));
     let j = judge_payloads(first, second, e, &contexts, &stats, params(a), &block);
-    words::judged(j, first.len(), second.len());
+    words::judged(out, j, first.len(), second.len())
 }
 
-fn started(a: &[u8], b: &[u8])
+fn started(out: &impl Print, a: &[u8], b: &[u8]) -> io::Result<()>
     requires { 138 ≤ length a.now }
 {
     let n = flags_refusal(a);
     if n != 0 {
-        words::unread(n);
-        return;
+        return words::unread(out, n);
     }
     let first = part(a, FRONT, a.len());
     match start(first) {
-        State::Ready(e) => payloads(a, first, part(b, FRONT, b.len()), e),
-        State::Refused(m) => words::unread(m),
+        State::Ready(e) => payloads(out, a, first, part(b, FRONT, b.len()), e),
+        State::Refused(m) => words::unread(out, m),
     }
 }
 
-fn pair(a: &[u8], b: &[u8]) {
+fn pair(out: &impl Print, a: &[u8], b: &[u8]) -> io::Result<()> {
     if a.len() < FRONT {
-        return;
+        return Ok(());
     }
     if b.len() < FRONT {
-        return;
+        return Ok(());
     }
     let i = first_other(a, b);
     if i < FRONT {
-        words::front(i);
-        return;
+        return words::front(out, i);
     }
-    words::answer(b"the first ", judge::judge(a));
-    words::answer(b", the second ", judge::judge(b));
-    words::behind_answers();
-    started(a, b);
+    words::answer(out, b"the first ", judge::judge(a))?;
+    words::answer(out, b", the second ", judge::judge(b))?;
+    words::behind_answers(out)?;
+    started(out, a, b)
 }
 
 // What goes on from line to line: whether a first frame waits, and how many bytes it has.
@@ -114,43 +114,55 @@ struct Held {
 }
 
 // A line that is no frame.
-fn no_frame(number: u64, n: u32) -> usize {
-    words::no_frame(number, n);
-    0
+fn no_frame(out: &impl Print, number: u64, n: u32) -> io::Result<usize> {
+    words::no_frame(out, number, n)?;
+    Ok(0)
 }
 
 // A frame's bytes, how many; 0 where the line is no frame.
-fn spelled(number: u64, line: &[u8], out: &mut [u8; MOST]) -> usize {
+fn spelled(
+    out: &impl Print,
+    number: u64,
+    line: &[u8],
+    bytes: &mut [u8; MOST],
+) -> io::Result<usize> {
     let n = refusal(line, true);
     if n != 0 {
-        return no_frame(number, n);
+        return no_frame(out, number, n);
     }
-    hex_bytes(line, out);
-    line.len() / 2
+    hex_bytes(line, bytes);
+    Ok(line.len() / 2)
 }
 
-fn both(a: &[u8; MOST], n: usize, b: &[u8; MOST], m: usize) {
-    pair(part(a, 0, n), part(b, 0, m));
+fn both(out: &impl Print, a: &[u8; MOST], n: usize, b: &[u8; MOST], m: usize) -> io::Result<()> {
+    pair(out, part(a, 0, n), part(b, 0, m))
 }
 
 // The second of a pair is held against the first; a pair of which one is no frame is left out.
-fn taken(number: u64, line: &[u8], a: &mut [u8; MOST], waits: bool, n: usize) -> usize {
+fn taken(
+    out: &impl Print,
+    number: u64,
+    line: &[u8],
+    a: &mut [u8; MOST],
+    waits: bool,
+    n: usize,
+) -> io::Result<usize> {
     if !waits {
-        return spelled(number, line, a);
+        return spelled(out, number, line, a);
     }
     let mut b = [0u8; MOST];
-    let m = spelled(number, line, &mut b);
-    words::pair(number);
+    let m = spelled(out, number, line, &mut b)?;
+    words::pair(out, number)?;
     if n == 0 {
-        words::left_out();
-        return 0;
+        words::left_out(out)?;
+        return Ok(0);
     }
     if m == 0 {
-        words::left_out();
-        return 0;
+        words::left_out(out)?;
+        return Ok(0);
     }
-    both(a, n, &b, m);
-    0
+    both(out, a, n, &b, m)?;
+    Ok(0)
 }
 
 fn next_number(n: u64) -> u64 {
@@ -160,38 +172,52 @@ fn next_number(n: u64) -> u64 {
     n + 1
 }
 
-fn turn(buffer: &mut [u8; LINE], a: &mut [u8; MOST], h: Held) -> Held {
+fn turn(
+    input: &mut impl Read,
+    out: &impl Print,
+    buffer: &mut [u8; LINE],
+    a: &mut [u8; MOST],
+    h: Held,
+) -> io::Result<Held> {
     let window = h.window;
-    match lines::next(buffer, window) {
+    match lines::next(input, buffer, window)? {
         Line::Is(from, to, left) => {
-            let bytes = taken(h.number, part(buffer, from, to), a, h.waits, h.bytes);
-            Held {
+            let bytes = taken(out, h.number, part(buffer, from, to), a, h.waits, h.bytes)?;
+            Ok(Held {
                 window: left,
                 number: next_number(h.number),
                 waits: !h.waits,
                 bytes,
                 more: true,
-            }
+            })
         }
-        Line::Ended => Held {
+        Line::Ended => Ok(Held {
             window,
             number: h.number,
             waits: h.waits,
             bytes: h.bytes,
             more: false,
-        },
-        Line::TooLong => Held {
-            window,
-            number: h.number,
-            waits: true,
-            bytes: no_frame(h.number, 22),
-            more: false,
-        },
+        }),
+        Line::TooLong => {
+            let bytes = no_frame(out, h.number, 22)?;
+            Ok(Held {
+                window,
+                number: h.number,
+                waits: true,
+                bytes,
+                more: false,
+            })
+        }
     }
 }
 
 // Nothing says that the input ends: the loop counts down from a number that no run uses up.
-fn turns(buffer: &mut [u8; LINE], a: &mut [u8; MOST]) {
+fn turns(
+    input: &mut impl Read,
+    out: &impl Print,
+    buffer: &mut [u8; LINE],
+    a: &mut [u8; MOST],
+) -> io::Result<()> {
     let mut h = Held {
         window: lines::nothing_read(),
         number: 1,
@@ -201,17 +227,17 @@ fn turns(buffer: &mut [u8; LINE], a: &mut [u8; MOST]) {
     };
     let mut left = u64::MAX;
     while 0 < left {
-        h = turn(buffer, a, h);
+        h = turn(input, out, buffer, a, h)?;
         if !h.more {
-            words::ended(h.number, h.waits);
-            return;
+            return words::ended(out, h.number, h.waits);
         }
         left -= 1;
     }
+    Ok(())
 }
 
-fn main() {
+fn main(rt: HostRuntime) -> io::Result<()> {
     let mut buffer = [0u8; LINE];
     let mut a = [0u8; MOST];
-    turns(&mut buffer, &mut a);
+    turns(&mut rt.stdin(), &rt.stdout(), &mut buffer, &mut a)
 }

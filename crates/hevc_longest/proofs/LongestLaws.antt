@@ -123,7 +123,7 @@ module _ (p : Params) (a : Accepted p) (b : Wanted) where
   places_way lv ctx infer zero ks = way_done (omega arith, omega arith)
   places_way {n} lv ctx infer (suc k) ks =
       way_if (eqb k 0 && (infer && none ks)) (λ q. way_done (omega arith, omega arith))
-      (λ q. way_bin (way_as (places_way lv ctx infer k _) (λ r m u. (more (is_sig lv b k) r u.0, omega (arith, u.1)))))
+      (λ q. way_bin (way_as (places_way {n = suc n} lv ctx infer k _) (λ r m u. (more (is_sig lv b k) r u.0, omega (arith, u.1)))))
     where
       more : (d : Bool) (r : List ℕ) → length r ≤ length (cond d (ks ++ (k ∷ [])) ks) + k → length r ≤ length ks + suc k
       more true r h = omega (arith, length-append ks (k ∷ []))
@@ -133,7 +133,7 @@ module _ (p : Params) (a : Accepted p) (b : Wanted) where
   unfolding greater1_s
   greater1_way lv base zero ks g = way_done (omega arith)
   greater1_way lv base (suc i) [] g = way_done (omega arith)
-  greater1_way lv base (suc i) (k ∷ ks) g = way_bin (way_as (greater1_way lv base i ks _) (λ r m u. omega arith))
+  greater1_way {n = n} lv base (suc i) (k ∷ ks) g = way_bin (way_as (greater1_way {n = suc n} lv base i ks _) (λ r m u. omega arith))
 
   -- so many for each level to come; a base is at least 1
   levels_way : {n : ℕ} (lv : ℕ → Wanted → ℤ) (spot_of : ℕ → Spot) → ((k : ℕ) → nat_abs (lv k b) ≤ 2 ^ T) → (ds : List Due) (left signs r : ℕ) (had : Bool) (sum : ℕ) (f : Filled)
@@ -150,7 +150,7 @@ module _ (p : Params) (a : Accepted p) (b : Wanted) where
       (λ q.
       let t22 : 2 ^ T ≤ 2 ^ 22 = pow_mono (range_small p a.depth) in
       let most : level ≤ 2 ^ 22 = omega (arith, range_most T neg level q) in
-      way_as (levels_way lv spot_of ranged ds (left - 1) signs (cond d.more (rice_next p r level) r) (had || d.more) (sum + level) _ o.1
+      way_as (levels_way {n = m} lv spot_of ranged ds (left - 1) signs (cond d.more (rice_next p r level) r) (had || d.more) (sum + level) _ o.1
       (cond_most (d.more && (p.persistent && not had)) (stat_next f.stat v) f.stat 84 (stat_most f.stat v s (omega (arith, o.0))) s)
       (cond_most d.more (rice_next p r level) r 21 (rice_most p r level w most) w)) (λ g m₂ k. (k.0, omega (arith, k.1))))
       (λ q. way_stop))

@@ -6,14 +6,16 @@ use crate::words::reason;
 use figures::add::Totals;
 use figures_read::out::tally_of;
 use morning_add::adding::One;
+use std::io;
 use text::write;
 
-fn spaces(n: usize) {
+fn spaces(out: &impl Print, n: usize) -> io::Result<()> {
     let mut i: usize = 0;
     while i < n {
-        write::text(b" ");
+        write::text(out, b" ")?;
         i += 1;
     }
+    Ok(())
 }
 
 // How many digits a number has.
@@ -33,141 +35,148 @@ fn digits(n: u64) -> usize
 }
 
 // Right in a column of 12.
-fn number(n: u64) {
+fn number(out: &impl Print, n: u64) -> io::Result<()> {
     let k = digits(n);
     if k < 12 {
-        spaces(12 - k);
+        spaces(out, 12 - k)?;
     }
-    write::decimal(n);
+    write::decimal(out, n)
 }
 
-fn signed(sign: &[u8], n: u64) {
+fn signed(out: &impl Print, sign: &[u8], n: u64) -> io::Result<()> {
     let k = digits(n);
     if k < 11 {
-        spaces(11 - k);
+        spaces(out, 11 - k)?;
     }
-    write::text(sign);
-    write::decimal(n);
+    write::text(out, sign)?;
+    write::decimal(out, n)
 }
 
 // Today's less yesterday's, with its sign.
-fn change(yesterday: u64, today: u64) {
+fn change(out: &impl Print, yesterday: u64, today: u64) -> io::Result<()> {
     if yesterday == today {
-        spaces(11);
-        write::text(b"=");
-        return;
+        spaces(out, 11)?;
+        return write::text(out, b"=");
     }
     if yesterday < today {
-        signed(b"+", today - yesterday);
-        return;
+        return signed(out, b"+", today - yesterday);
     }
-    signed(b"-", yesterday - today);
+    signed(out, b"-", yesterday - today)
 }
 
 // Of one book; the words come behind it.
-fn one(n: u64) {
-    number(n);
-    write::text(b"  ");
+fn one(out: &impl Print, n: u64) -> io::Result<()> {
+    number(out, n)?;
+    write::text(out, b"  ")
 }
 
 // Of two.
-fn two(yesterday: u64, today: u64) {
-    number(yesterday);
-    number(today);
-    change(yesterday, today);
-    write::text(b"  ");
+fn two(out: &impl Print, yesterday: u64, today: u64) -> io::Result<()> {
+    number(out, yesterday)?;
+    number(out, today)?;
+    change(out, yesterday, today)?;
+    write::text(out, b"  ")
 }
 
-pub fn heading() {
-    write::line(b"   yesterday       today      change");
+pub fn heading(out: &impl Print) -> io::Result<()> {
+    write::line(out, b"   yesterday       today      change")
 }
 
-pub fn count(n: u64, words: &[u8]) {
-    one(n);
-    write::line(words);
+pub fn count(out: &impl Print, n: u64, words: &[u8]) -> io::Result<()> {
+    one(out, n)?;
+    write::line(out, words)
 }
 
-pub fn both(yesterday: u64, today: u64, words: &[u8]) {
-    two(yesterday, today);
-    write::line(words);
+pub fn both(out: &impl Print, yesterday: u64, today: u64, words: &[u8]) -> io::Result<()> {
+    two(out, yesterday, today)?;
+    write::line(out, words)
 }
 
-fn blocks_of(size: &[u8]) {
-    write::text(b"blocks of ");
-    write::line(size);
+fn blocks_of(out: &impl Print, size: &[u8]) -> io::Result<()> {
+    write::text(out, b"blocks of ")?;
+    write::line(out, size)
 }
 
-fn past_of(size: &[u8]) {
-    write::text(b"bits past the end, ");
-    write::line(size);
+fn past_of(out: &impl Print, size: &[u8]) -> io::Result<()> {
+    write::text(out, b"bits past the end, ")?;
+    write::line(out, size)
 }
 
-fn left_out(day: &[u8], full: bool, size: &[u8]) {
+fn left_out(out: &impl Print, day: &[u8], full: bool, size: &[u8]) -> io::Result<()> {
     if full {
-        write::text(day);
-        write::text(b"more than 4,096 blocks of ");
-        write::text(size);
-        write::line(b": the rest is not counted");
+        write::text(out, day)?;
+        write::text(out, b"more than 4,096 blocks of ")?;
+        write::text(out, size)?;
+        write::line(out, b": the rest is not counted")?;
     }
+    Ok(())
 }
 
-pub fn size_of_one(size: &[u8], o: One) {
+pub fn size_of_one(out: &impl Print, size: &[u8], o: One) -> io::Result<()> {
     let t = o.totals;
-    one(t.accepted as u64);
-    blocks_of(size);
-    one(t.past);
-    past_of(size);
-    left_out(b"", o.full, size);
+    one(out, t.accepted as u64)?;
+    blocks_of(out, size)?;
+    one(out, t.past)?;
+    past_of(out, size)?;
+    left_out(out, b"", o.full, size)
 }
 
-pub fn size_of_both(size: &[u8], yesterday: One, today: One) {
+pub fn size_of_both(out: &impl Print, size: &[u8], yesterday: One, today: One) -> io::Result<()> {
     let y = yesterday.totals;
     let t = today.totals;
-    two(y.accepted as u64, t.accepted as u64);
-    blocks_of(size);
-    two(y.past, t.past);
-    past_of(size);
-    left_out(b"yesterday: ", yesterday.full, size);
-    left_out(b"today: ", today.full, size);
+    two(out, y.accepted as u64, t.accepted as u64)?;
+    blocks_of(out, size)?;
+    two(out, y.past, t.past)?;
+    past_of(out, size)?;
+    left_out(out, b"yesterday: ", yesterday.full, size)?;
+    left_out(out, b"today: ", today.full, size)
 }
 
-fn refused(n: u32) {
-    write::text(b"refused by ");
-    write::decimal32(n);
-    write::text(b": ");
-    reason(n);
-    write::end_line();
+fn refused(out: &impl Print, n: u32) -> io::Result<()> {
+    write::text(out, b"refused by ")?;
+    write::decimal32(out, n)?;
+    write::text(out, b": ")?;
+    reason(out, n)?;
+    write::end_line(out)
 }
 
 // Each number that was given; a tally stops at 65,535.
-pub fn refusals_of_one(tallies: &[u32; 24], t: Totals) {
+pub fn refusals_of_one(out: &impl Print, tallies: &[u32; 24], t: Totals) -> io::Result<()> {
     let mut n: u32 = 1;
     while n < 25 {
         let k = tally_of(tallies, t, n);
         if k.count != 0 {
-            one(k.count as u64);
-            refused(n);
+            one(out, k.count as u64)?;
+            refused(out, n)?;
         }
         n += 1;
     }
+    Ok(())
 }
 
-fn refused_both(yesterday: u32, today: u32, n: u32) {
+fn refused_both(out: &impl Print, yesterday: u32, today: u32, n: u32) -> io::Result<()> {
     if yesterday == 0 {
         if today == 0 {
-            return;
+            return Ok(());
         }
     }
-    two(yesterday as u64, today as u64);
-    refused(n);
+    two(out, yesterday as u64, today as u64)?;
+    refused(out, n)
 }
 
-pub fn refusals_of_both(yesterday: &[u32; 24], today: &[u32; 24], y: Totals, t: Totals) {
+pub fn refusals_of_both(
+    out: &impl Print,
+    yesterday: &[u32; 24],
+    today: &[u32; 24],
+    y: Totals,
+    t: Totals,
+) -> io::Result<()> {
     let mut n: u32 = 1;
     while n < 25 {
         let a = tally_of(yesterday, y, n);
         let b = tally_of(today, t, n);
-        refused_both(a.count, b.count, n);
+        refused_both(out, a.count, b.count, n)?;
         n += 1;
     }
+    Ok(())
 }

@@ -7,91 +7,104 @@ use figures::add::Totals;
 use figures_read::out::at_place;
 use grid_places::places::{place, side};
 use heat::{grey, mark, shade};
+use std::io;
 use text::write;
 
-fn character(b: u8) {
+fn character(out: &impl Print, b: u8) -> io::Result<()> {
     let alone = [b];
-    write::text(&alone);
+    write::text(out, &alone)
 }
 
 // Two digits.
-fn row_number(row: usize) {
+fn row_number(out: &impl Print, row: usize) -> io::Result<()> {
     if row < 10 {
-        write::text(b" ");
+        write::text(out, b" ")?;
     }
-    write::count(row);
+    write::count(out, row)
 }
 
 // The last digits of the columns' numbers.
-fn columns(n: usize) {
+fn columns(out: &impl Print, n: usize) -> io::Result<()> {
     let mut i: usize = 0;
     while i < n {
-        write::count(i % 10);
+        write::count(out, i % 10)?;
         i += 1;
     }
+    Ok(())
 }
 
-fn row_of(blocks: &[u32; 1024], sums: &[u64; 1024], greatests: &[u32; 1024], t: Totals, row: usize)
+fn row_of(
+    out: &impl Print,
+    blocks: &[u32; 1024],
+    sums: &[u64; 1024],
+    greatests: &[u32; 1024],
+    t: Totals,
+    row: usize,
+) -> io::Result<()>
     requires { row < 32 }
 {
     let n = side(t.log2);
     let mut i: usize = 0;
     while i < n {
         let p = at_place(blocks, sums, greatests, t, place(t.log2, row, i));
-        character(mark(shade(p.blocks, t.accepted)));
+        character(out, mark(shade(p.blocks, t.accepted)))?;
         i += 1;
     }
+    Ok(())
 }
 
 // A title, of a size that has blocks.
-fn title(size: &[u8]) {
-    write::end_line();
-    write::text(size);
-    write::line(b": how often each place held a level, ' .:-=+*#%@' from never to always");
+fn title(out: &impl Print, size: &[u8]) -> io::Result<()> {
+    write::end_line(out)?;
+    write::text(out, size)?;
+    write::line(
+        out,
+        b": how often each place held a level, ' .:-=+*#%@' from never to always",
+    )
 }
 
 pub fn of_one(
+    out: &impl Print,
     size: &[u8],
     blocks: &[u32; 1024],
     sums: &[u64; 1024],
     greatests: &[u32; 1024],
     t: Totals,
-) {
+) -> io::Result<()> {
     if t.accepted == 0 {
-        return;
+        return Ok(());
     }
-    title(size);
+    title(out, size)?;
     let n = side(t.log2);
-    more_columns(n);
-    write::end_line();
+    more_columns(out, n)?;
+    write::end_line(out)?;
     let mut row: usize = 0;
     while row < n {
-        row_number(row);
-        write::text(b" ");
-        row_of(blocks, sums, greatests, t, row);
-        write::line(b"|");
+        row_number(out, row)?;
+        write::text(out, b" ")?;
+        row_of(out, blocks, sums, greatests, t, row)?;
+        write::line(out, b"|")?;
         row += 1;
     }
+    Ok(())
 }
 
 // + where the character rose from yesterday to today, - where it fell, a dot where it is the same and no space.
-fn sign(yesterday: u64, today: u64) {
+fn sign(out: &impl Print, yesterday: u64, today: u64) -> io::Result<()> {
     if yesterday < today {
-        write::text(b"+");
-        return;
+        return write::text(out, b"+");
     }
     if today < yesterday {
-        write::text(b"-");
-        return;
+        return write::text(out, b"-");
     }
     if today == 0 {
-        write::text(b" ");
-        return;
+        return write::text(out, b" ");
     }
-    write::text(b".");
+    write::text(out, b".")
 }
 
 fn change_of(
+    out: &impl Print,
     blocks: &[u32; 1024],
     sums: &[u64; 1024],
     greatests: &[u32; 1024],
@@ -101,7 +114,7 @@ fn change_of(
     greatests_t: &[u32; 1024],
     t: Totals,
     row: usize,
-)
+) -> io::Result<()>
     requires { row < 32 }
 {
     let n = side(t.log2);
@@ -110,13 +123,19 @@ fn change_of(
         let p = place(t.log2, row, i);
         let a = at_place(blocks, sums, greatests, y, p);
         let b = at_place(blocks_t, sums_t, greatests_t, t, p);
-        sign(shade(a.blocks, y.accepted), shade(b.blocks, t.accepted));
+        sign(
+            out,
+            shade(a.blocks, y.accepted),
+            shade(b.blocks, t.accepted),
+        )?;
         i += 1;
     }
+    Ok(())
 }
 
 // A row of both days, and what changed beside it where that fits into 80 columns.
 fn both_rows(
+    out: &impl Print,
     blocks: &[u32; 1024],
     sums: &[u64; 1024],
     greatests: &[u32; 1024],
@@ -126,18 +145,19 @@ fn both_rows(
     greatests_t: &[u32; 1024],
     t: Totals,
     row: usize,
-)
+) -> io::Result<()>
     requires { row < 32 }
 {
-    row_number(row);
-    write::text(b" ");
-    row_of(blocks, sums, greatests, y, row);
-    write::text(b"|  ");
-    row_of(blocks_t, sums_t, greatests_t, t, row);
-    write::text(b"|");
+    row_number(out, row)?;
+    write::text(out, b" ")?;
+    row_of(out, blocks, sums, greatests, y, row)?;
+    write::text(out, b"|  ")?;
+    row_of(out, blocks_t, sums_t, greatests_t, t, row)?;
+    write::text(out, b"|")?;
     if side(t.log2) < 32 {
-        write::text(b"  ");
+        write::text(out, b"  ")?;
         change_of(
+            out,
             blocks,
             sums,
             greatests,
@@ -147,20 +167,21 @@ fn both_rows(
             greatests_t,
             t,
             row,
-        );
-        write::text(b"|");
+        )?;
+        write::text(out, b"|")?;
     }
-    write::end_line();
+    write::end_line(out)
 }
 
 // The numbers of the columns above one map more.
-fn more_columns(n: usize) {
-    write::text(b"   ");
-    columns(n);
+fn more_columns(out: &impl Print, n: usize) -> io::Result<()> {
+    write::text(out, b"   ")?;
+    columns(out, n)
 }
 
 // What changed, below both days.
 fn changes_below(
+    out: &impl Print,
     blocks: &[u32; 1024],
     sums: &[u64; 1024],
     greatests: &[u32; 1024],
@@ -169,15 +190,16 @@ fn changes_below(
     sums_t: &[u64; 1024],
     greatests_t: &[u32; 1024],
     t: Totals,
-) {
+) -> io::Result<()> {
     let n = side(t.log2);
-    more_columns(n);
-    write::end_line();
+    more_columns(out, n)?;
+    write::end_line(out)?;
     let mut row: usize = 0;
     while row < n {
-        row_number(row);
-        write::text(b" ");
+        row_number(out, row)?;
+        write::text(out, b" ")?;
         change_of(
+            out,
             blocks,
             sums,
             greatests,
@@ -187,14 +209,16 @@ fn changes_below(
             greatests_t,
             t,
             row,
-        );
-        write::line(b"|");
+        )?;
+        write::line(out, b"|")?;
         row += 1;
     }
+    Ok(())
 }
 
 // Yesterday's, today's and what changed.
 pub fn of_both(
+    out: &impl Print,
     size: &[u8],
     blocks: &[u32; 1024],
     sums: &[u64; 1024],
@@ -204,24 +228,28 @@ pub fn of_both(
     sums_t: &[u64; 1024],
     greatests_t: &[u32; 1024],
     t: Totals,
-) {
+) -> io::Result<()> {
     if y.accepted == 0 {
         if t.accepted == 0 {
-            return;
+            return Ok(());
         }
     }
-    title(size);
-    write::line(b"yesterday, today, and + where more often, - where less");
+    title(out, size)?;
+    write::line(
+        out,
+        b"yesterday, today, and + where more often, - where less",
+    )?;
     let n = side(t.log2);
-    more_columns(n);
-    more_columns(n);
+    more_columns(out, n)?;
+    more_columns(out, n)?;
     if n < 32 {
-        more_columns(n);
+        more_columns(out, n)?;
     }
-    write::end_line();
+    write::end_line(out)?;
     let mut row: usize = 0;
     while row < n {
         both_rows(
+            out,
             blocks,
             sums,
             greatests,
@@ -231,48 +259,68 @@ pub fn of_both(
             greatests_t,
             t,
             row,
-        );
+        )?;
         row += 1;
     }
     if n == 32 {
-        changes_below(blocks, sums, greatests, y, blocks_t, sums_t, greatests_t, t);
+        changes_below(
+            out,
+            blocks,
+            sums,
+            greatests,
+            y,
+            blocks_t,
+            sums_t,
+            greatests_t,
+            t,
+        )?;
     }
+    Ok(())
 }
 
 fn greys_of(
+    out: &impl Print,
     blocks: &[u32; 1024],
     sums: &[u64; 1024],
     greatests: &[u32; 1024],
     t: Totals,
     row: usize,
-)
+) -> io::Result<()>
     requires { row < 32 }
 {
     let n = side(t.log2);
     let mut i: usize = 0;
     while i < n {
         if 0 < i {
-            write::text(b" ");
+            write::text(out, b" ")?;
         }
         let p = at_place(blocks, sums, greatests, t, place(t.log2, row, i));
-        write::decimal(grey(p.blocks, t.accepted));
+        write::decimal(out, grey(p.blocks, t.accepted))?;
         i += 1;
     }
+    Ok(())
 }
 
 // A PGM picture, as text: P2, its sides, its white, and a line of greys for each row.
-pub fn picture(blocks: &[u32; 1024], sums: &[u64; 1024], greatests: &[u32; 1024], t: Totals) {
+pub fn picture(
+    out: &impl Print,
+    blocks: &[u32; 1024],
+    sums: &[u64; 1024],
+    greatests: &[u32; 1024],
+    t: Totals,
+) -> io::Result<()> {
     let n = side(t.log2);
-    write::line(b"P2");
-    write::count(n);
-    write::text(b" ");
-    write::count(n);
-    write::end_line();
-    write::line(b"255");
+    write::line(out, b"P2")?;
+    write::count(out, n)?;
+    write::text(out, b" ")?;
+    write::count(out, n)?;
+    write::end_line(out)?;
+    write::line(out, b"255")?;
     let mut row: usize = 0;
     while row < n {
-        greys_of(blocks, sums, greatests, t, row);
-        write::end_line();
+        greys_of(out, blocks, sums, greatests, t, row)?;
+        write::end_line(out)?;
         row += 1;
     }
+    Ok(())
 }

@@ -6,6 +6,7 @@ use press_advice::advice::{Change, Place, change_of, place_of};
 use press_drawing::press::press;
 use press_frame::press::Pressed;
 use press_text::words;
+use std::io;
 use text::lines::part;
 use text::write;
 
@@ -14,46 +15,47 @@ fn level_at(levels: &[i32; 1024], i: usize) -> i32 {
 }
 
 // The change that press_advice has shown the writer to take.
-fn suggested(to: i32, n: usize, p: Params, levels: &[i32; 1024]) {
+fn suggested(to: &impl Print, n: usize, p: Params, levels: &[i32; 1024]) -> io::Result<()> {
     match change_of(p, levels) {
         Change::To(i, v) => words::instead(to, n, i, level_at(levels, i), v),
         Change::Nothing => words::nothing_does(to),
     }
 }
 
-fn advised(to: i32, n: usize, p: Params, levels: &[i32; 1024]) {
+fn advised(to: &impl Print, n: usize, p: Params, levels: &[i32; 1024]) -> io::Result<()> {
     match place_of(p, levels) {
-        Place::Nowhere(_) => {}
+        Place::Nowhere(_) => Ok(()),
         Place::Far(i) => {
-            words::far(to, n, i, level_at(levels, i));
-            suggested(to, n, p, levels);
+            words::far(to, n, i, level_at(levels, i))?;
+            suggested(to, n, p, levels)
         }
         Place::Off(x, y) => {
-            words::off(to, x, y);
-            suggested(to, n, p, levels);
+            words::off(to, x, y)?;
+            suggested(to, n, p, levels)
         }
     }
 }
 
-// n by n levels; `line` is where the drawing began.
+// n by n levels; `line` is where the drawing began. The book's line goes to `out`, words to `to`.
 pub fn made(
-    to: i32,
+    out: &impl Print,
+    to: &impl Print,
     line: u64,
     n: usize,
     head: &[u8; 6],
     initial: &[u8; CONTEXTS],
     levels: &[i32; 1024],
-) {
+) -> io::Result<()> {
     let mut room = [0u8; 4234];
     match press(head, initial, levels, &mut room) {
         Pressed::Frame(long) => {
-            write::hex_bytes(part(&room, 0, long));
-            write::end_line();
+            write::hex_bytes(out, part(&room, 0, long))?;
+            write::end_line(out)
         }
         Pressed::No(number) => {
-            words::refused(to, line, number);
-            advised(to, n, params(head), levels);
-            words::end_line(to);
+            words::refused(to, line, number)?;
+            advised(to, n, params(head), levels)?;
+            words::end_line(to)
         }
     }
 }

@@ -10,7 +10,9 @@ mod sheet; // sheet.rt: a drawing line by line
 use crate::sheet::Sheet;
 use bins::tags::CONTEXTS;
 use check::same;
-use libc::{STDERR_FILENO, STDOUT_FILENO};
+use std::env::Env;
+use std::io;
+use std::io::Read;
 use text::lines;
 use text::lines::{Line, Window, part};
 
@@ -27,19 +29,22 @@ struct Held {
 }
 
 fn turn(
-    to: i32,
+    input: &mut impl Read,
+    out: &impl Print,
+    to: &impl Print,
     buffer: &mut [u8; LINE],
     head: &mut [u8; 6],
     initial: &mut [u8; CONTEXTS],
     levels: &mut [i32; 1024],
     filled: &mut [usize; 32],
     h: Held,
-) -> Held {
+) -> io::Result<Held> {
     let window = h.window;
     let before = h.sheet;
-    match lines::next(buffer, window) {
+    match lines::next(input, buffer, window)? {
         Line::Is(from, end, left) => {
             let sheet = sheet::line(
+                out,
                 to,
                 part(buffer, from, end),
                 h.tail,
@@ -48,44 +53,46 @@ fn turn(
                 levels,
                 filled,
                 before,
-            );
-            Held {
+            )?;
+            Ok(Held {
                 window: left,
                 sheet,
                 more: true,
                 tail: false,
-            }
+            })
         }
         Line::Ended => {
-            let sheet = sheet::end(to, head, initial, levels, filled, before);
-            Held {
+            let sheet = sheet::end(out, to, head, initial, levels, filled, before)?;
+            Ok(Held {
                 window,
                 sheet,
                 more: false,
                 tail: false,
-            }
+            })
         }
         Line::TooLong => {
-            let sheet = sheet::long(to, h.tail, before);
-            Held {
+            let sheet = sheet::long(to, h.tail, before)?;
+            Ok(Held {
                 window: lines::nothing_read(),
                 sheet,
                 more: true,
                 tail: true,
-            }
+            })
         }
     }
 }
 
 // Nothing says that the input ends: the loop counts down from a number that no run uses up.
 fn turns(
-    to: i32,
+    input: &mut impl Read,
+    out: &impl Print,
+    to: &impl Print,
     buffer: &mut [u8; LINE],
     head: &mut [u8; 6],
     initial: &mut [u8; CONTEXTS],
     levels: &mut [i32; 1024],
     filled: &mut [usize; 32],
-) {
+) -> io::Result<()> {
     let blank = sheet::blank();
     let mut h = Held {
         window: lines::nothing_read(),
@@ -96,37 +103,47 @@ fn turns(
     sheet::clear(head, initial, levels, filled);
     let mut left = u64::MAX;
     while 0 < left {
-        h = turn(to, buffer, head, initial, levels, filled, h);
+        h = turn(input, out, to, buffer, head, initial, levels, filled, h)?;
         if !h.more {
-            return;
+            return Ok(());
         }
         left -= 1;
     }
+    Ok(())
 }
 
-// Where words go.
-fn told_to() -> i32 {
-    let mut name = io::buffer();
-    let n = os::arg(1, &mut name);
-    if same(part(&name, 0, n), b"together") {
-        return STDOUT_FILENO;
-    }
-    STDERR_FILENO
-}
-
-fn main() {
-    let to = told_to();
+// All drawings; words go to `to`.
+fn drawings(input: &mut impl Read, out: &impl Print, to: &impl Print) -> io::Result<()> {
     let mut buffer = [0u8; LINE];
     let mut head = [0u8; 6];
     let mut initial = [0u8; CONTEXTS];
     let mut levels = [0i32; 1024];
     let mut filled = [0usize; 32];
     turns(
+        input,
+        out,
         to,
         &mut buffer,
         &mut head,
         &mut initial,
         &mut levels,
         &mut filled,
-    );
+    )
+}
+
+// Whether words go to standard output too.
+fn is_together(rt: &impl Env) -> bool {
+    let mut name = [0u8; 4096];
+    match rt.arg(1, &mut name) {
+        Ok(n) => same(part(&name, 0, n), b"together"),
+        Err(_) => false,
+    }
+}
+
+fn main(rt: HostRuntime) -> io::Result<()> {
+    let out = rt.stdout();
+    if is_together(&rt) {
+        return drawings(&mut rt.stdin(), &out, &out);
+    }
+    drawings(&mut rt.stdin(), &out, &rt.stderr())
 }

@@ -1,13 +1,15 @@
 // A drawing line by line: words first, then the rows; an empty line, a dot or the end of the input ends it.
+// The book's lines go to the printer `out`, what is told to `to`.
 use crate::made;
 use bins::tags::CONTEXTS;
-use bytes::scan::find;
 use check::same;
+use octet_scan::find;
 use press_text::keys::Taken;
 use press_text::rows::Row;
 use press_text::words::{LATE, LONG, NO_SIZE};
 use press_text::{keys, rows, values, words};
 use press_tokens::tokens::{end_of, start_of};
+use std::io;
 use text::lines::part;
 
 // What goes on from line to line.
@@ -60,64 +62,70 @@ fn cleared(h: Sheet) -> Sheet {
     r
 }
 
-fn spoiled(to: i32, h: Sheet, at: usize, why: u8) -> Sheet {
-    words::bad(to, h.line, at, why);
+fn spoiled(to: &impl Print, h: Sheet, at: usize, why: u8) -> io::Result<Sheet> {
+    words::bad(to, h.line, at, why)?;
     let mut r = h;
     r.bad = true;
-    r
+    Ok(r)
 }
 
 // A drawing that has all its rows is made; of another the row that is missing is told.
 fn finished(
-    to: i32,
+    out: &impl Print,
+    to: &impl Print,
     head: &[u8; 6],
     initial: &[u8; CONTEXTS],
     levels: &[i32; 1024],
     filled: &[usize; 32],
     h: Sheet,
-) {
+) -> io::Result<()> {
     let n = rows::side(head[0]);
     if n == 0 {
-        words::bad(to, h.line, 0, NO_SIZE);
-        return;
+        return words::bad(to, h.line, 0, NO_SIZE);
     }
     let row = rows::missing(n, filled);
     if row < n {
-        words::missing(to, h.line, row, n);
-        return;
+        return words::missing(to, h.line, row, n);
     }
-    made::made(to, h.first, n, head, initial, levels);
+    made::made(out, to, h.first, n, head, initial, levels)
 }
 
 // What ends a drawing, if one has begun.
 pub fn end(
-    to: i32,
+    out: &impl Print,
+    to: &impl Print,
     head: &mut [u8; 6],
     initial: &mut [u8; CONTEXTS],
     levels: &mut [i32; 1024],
     filled: &mut [usize; 32],
     h: Sheet,
-) -> Sheet {
+) -> io::Result<Sheet> {
     if h.first == 0 {
-        return cleared(h);
+        return Ok(cleared(h));
     }
     if !h.bad {
-        finished(to, head, initial, levels, filled, h);
+        finished(out, to, head, initial, levels, filled, h)?;
     }
     clear(head, initial, levels, filled);
-    cleared(h)
+    Ok(cleared(h))
 }
 
-fn keyed(to: i32, s: &[u8], head: &mut [u8; 6], initial: &mut [u8; CONTEXTS], h: Sheet) -> Sheet {
+fn keyed(
+    to: &impl Print,
+    s: &[u8],
+    head: &mut [u8; 6],
+    initial: &mut [u8; CONTEXTS],
+    h: Sheet,
+) -> io::Result<Sheet> {
     if h.begun {
         return spoiled(to, h, start_of(s, 0, false), LATE);
     }
     match keys::key(s, head, initial) {
-        Taken::Yes => h,
+        Taken::Yes => Ok(h),
         Taken::Shown => {
             let mut r = h;
             r.shown = true;
-            r
+            Ok(r)
         }
         Taken::No(at, why) => spoiled(to, h, at, why),
     }
@@ -139,13 +147,13 @@ fn row_of(
 }
 
 fn rowed(
-    to: i32,
+    to: &impl Print,
     s: &[u8],
     log2: u8,
     levels: &mut [i32; 1024],
     filled: &mut [usize; 32],
     h: Sheet,
-) -> Sheet {
+) -> io::Result<Sheet> {
     if log2 == 0 {
         return spoiled(to, h, start_of(s, 0, false), NO_SIZE);
     }
@@ -156,7 +164,7 @@ fn rowed(
             if r.rows < 32 {
                 r.rows += 1;
             }
-            r
+            Ok(r)
         }
         Row::Bad(at, why) => spoiled(to, h, at, why),
     }
@@ -178,21 +186,21 @@ fn begins_with_letter(s: &[u8], at: usize) -> bool {
 
 // A line of a drawing.
 fn within(
-    to: i32,
+    to: &impl Print,
     s: &[u8],
     head: &mut [u8; 6],
     initial: &mut [u8; CONTEXTS],
     levels: &mut [i32; 1024],
     filled: &mut [usize; 32],
     h: Sheet,
-) -> Sheet {
+) -> io::Result<Sheet> {
     if h.bad {
-        return h;
+        return Ok(h);
     }
     if h.shown {
         // what `show` writes beside its rows has no bar
         if s.len() <= find(s, 0, s.len(), b'|') {
-            return h;
+            return Ok(h);
         }
         return rowed(to, s, head[0], levels, filled, h);
     }
@@ -212,7 +220,8 @@ fn begun(h: Sheet) -> Sheet {
 
 // The next line, unless it is the tail of one that was too long.
 pub fn line(
-    to: i32,
+    out: &impl Print,
+    to: &impl Print,
     s: &[u8],
     tail: bool,
     head: &mut [u8; 6],
@@ -220,33 +229,33 @@ pub fn line(
     levels: &mut [i32; 1024],
     filled: &mut [usize; 32],
     before: Sheet,
-) -> Sheet {
+) -> io::Result<Sheet> {
     if tail {
-        return before;
+        return Ok(before);
     }
     let h = next_line(before);
     let a = start_of(s, 0, false);
     let word = part(s, a, end_of(s, a, false));
     if same(part(word, 0, 1), b"#") {
-        return h;
+        return Ok(h);
     }
     if word.len() == 0 {
-        return end(to, head, initial, levels, filled, h);
+        return end(out, to, head, initial, levels, filled, h);
     }
     if same(part(s, a, s.len()), b".") {
-        return end(to, head, initial, levels, filled, h);
+        return end(out, to, head, initial, levels, filled, h);
     }
     within(to, s, head, initial, levels, filled, begun(h))
 }
 
 // The front of a line that is too long.
-pub fn long(to: i32, tail: bool, before: Sheet) -> Sheet {
+pub fn long(to: &impl Print, tail: bool, before: Sheet) -> io::Result<Sheet> {
     if tail {
-        return before;
+        return Ok(before);
     }
     let h = begun(next_line(before));
     if h.bad {
-        return h;
+        return Ok(h);
     }
     spoiled(to, h, 4095, LONG)
 }

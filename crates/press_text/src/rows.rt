@@ -2,8 +2,8 @@
 ghost use Rattle.std.specs.Prelude.{◌≤◌};
 
 use crate::words::{FEW, LEVEL, MANY, ROW, ROWS};
-use bytes::scan::find;
 use check::same;
+use octet_scan::find;
 use press_tokens::tokens::{end_of, start_of};
 use text::lines::part;
 use text_fields::fields::{Number, decimal};

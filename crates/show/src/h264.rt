@@ -3,22 +3,23 @@ use crate::words;
 use bins::state::Engine;
 use h264_frame::{Shown, list_place, read_frame};
 use show_grid::grid;
+use std::io;
 use text::write;
 
-fn spaced(level: i32) {
-    write::text(b" ");
-    write::signed(level);
+fn spaced(out: &impl Print, level: i32) -> io::Result<()> {
+    write::text(out, b" ")?;
+    write::signed(out, level)
 }
 
 // The levels by list place.
-fn by_place(levels: &[i32; 16]) {
-    write::text(b"by list place      ");
+fn by_place(out: &impl Print, levels: &[i32; 16]) -> io::Result<()> {
+    write::text(out, b"by list place      ")?;
     let mut i: usize = 0;
     while i < 16 {
-        spaced(levels[i]);
+        spaced(out, levels[i])?;
         i += 1;
     }
-    write::end_line();
+    write::end_line(out)
 }
 
 // Row by row, each level from its place in the zig-zag scan.
@@ -30,27 +31,33 @@ fn laid(levels: &[i32; 16], block: &mut [i32; 1024]) {
     }
 }
 
-fn as_grid(levels: &[i32; 16], greatest: u32) {
+fn as_grid(out: &impl Print, levels: &[i32; 16], greatest: u32) -> io::Result<()> {
     let mut block = [0i32; 1024];
     laid(levels, &mut block);
-    write::line(b"as a grid, by the zig-zag scan of frames");
-    grid::levels(&block, 2, greatest);
+    write::line(out, b"as a grid, by the zig-zag scan of frames")?;
+    grid::levels(out, &block, 2, greatest)
 }
 
-fn shown(levels: &[i32; 16], greatest: u32, e: Engine, bytes: usize) {
-    write::line(b"accepted: 4 by 4, luma of H.264");
-    words::greatest(greatest);
-    words::drawn(e, bytes);
-    by_place(levels);
-    as_grid(levels, greatest);
+fn shown(
+    out: &impl Print,
+    levels: &[i32; 16],
+    greatest: u32,
+    e: Engine,
+    bytes: usize,
+) -> io::Result<()> {
+    write::line(out, b"accepted: 4 by 4, luma of H.264")?;
+    words::greatest(out, greatest)?;
+    words::drawn(out, e, bytes)?;
+    by_place(out, levels)?;
+    as_grid(out, levels, greatest)
 }
 
 // The bytes of a frame, of which so many are the payload's.
-pub fn frame(bytes: &[u8], payload: usize) {
+pub fn frame(out: &impl Print, bytes: &[u8], payload: usize) -> io::Result<()> {
     let mut levels = [0i32; 16];
     match read_frame(bytes, &mut levels) {
-        Shown::Block(greatest, e) => shown(&levels, greatest, e, payload),
-        Shown::Refused(n) => words::refused(n),
-        Shown::NoFrame => write::line(b"bad input: these are not the bytes of a frame"),
+        Shown::Block(greatest, e) => shown(out, &levels, greatest, e, payload),
+        Shown::Refused(n) => words::refused(out, n),
+        Shown::NoFrame => write::line(out, b"bad input: these are not the bytes of a frame"),
     }
 }

@@ -17,7 +17,6 @@ ghost use Rattle.std.specs.Prelude.{◌≤◌};
 use bins::places::BitPlace;
 use bins::state::Engine;
 use bins::tags::CONTEXTS;
-use bytes::scan::find;
 use cabac::answers::State;
 use cabac_engine::engine::start;
 use cabac_init::contexts::init_contexts;
@@ -25,14 +24,18 @@ use check::same;
 use hevc_reader::entries::residual_coding;
 use hevc_residual::answers::{Found, Read};
 use hevc_residual::params::{Params, all_off};
-use libc::STDIN_FILENO;
+use octet_scan::find;
 use show_grid::grid;
-use text::lines::part;
+use std::io;
+use text::lines::{part, read_full};
 use text::write;
 use text_fields::fields::Octets;
 use text_octets::octets::hex_bytes;
 
 const MOST: usize = 4096;
+
+// So much of standard input is looked at.
+const MOST_READ: usize = 65536;
 
 // Header, values and payload as they stand in the frame.
 const HEADER_DIGITS: usize = 16;
@@ -111,30 +114,43 @@ fn refused_before_start(
     }
 }
 
-fn shown(found: Found, e: Engine, payload: &[u8], p: Params, block: &[i32; 1024]) {
-    words::size(p.log2, p.luma);
-    words::found(found);
-    words::drawn(e, payload.len());
-    summary::of(block, p.log2);
-    grid::levels(block, p.log2, found.greatest);
+fn shown(
+    out: &impl Print,
+    found: Found,
+    e: Engine,
+    payload: &[u8],
+    p: Params,
+    block: &[i32; 1024],
+) -> io::Result<()> {
+    words::size(out, p.log2, p.luma)?;
+    words::found(out, found)?;
+    words::drawn(out, e, payload.len())?;
+    summary::of(out, block, p.log2)?;
+    grid::levels(out, block, p.log2, found.greatest)
 }
 
 fn read_from(
+    out: &impl Print,
     payload: &[u8],
     e: Engine,
     contexts: &mut [u8; CONTEXTS],
     statistics: &mut [u8; 4],
     p: Params,
     block: &mut [i32; 1024],
-) {
+) -> io::Result<()> {
     let r = residual_coding(payload, e, contexts, statistics, p, block);
     match r {
-        Read::Block(found, next) => shown(found, next, payload, p, block),
-        Read::Refused(n) => words::refused(n),
+        Read::Block(found, next) => shown(out, found, next, payload, p, block),
+        Read::Refused(n) => words::refused(out, n),
     }
 }
 
-fn read(header: &[u8; 8], values: &[u8; CONTEXTS], payload: &[u8]) {
+fn read(
+    out: &impl Print,
+    header: &[u8; 8],
+    values: &[u8; CONTEXTS],
+    payload: &[u8],
+) -> io::Result<()> {
     let mut contexts = [0u8; CONTEXTS];
     let mut statistics = [0u8; 4];
     let mut block = [0i32; 1024];
@@ -142,15 +158,22 @@ fn read(header: &[u8; 8], values: &[u8; CONTEXTS], payload: &[u8]) {
     init_contexts(&mut contexts, &mut statistics, values, header[4]);
     let n = refused_before_start(payload, &mut contexts, &mut statistics, p, &mut block);
     if n != 0 {
-        words::refused(n);
-        return;
+        return words::refused(out, n);
     }
     let s = start(payload);
     match s {
         State::Ready(e) => {
-            read_from(payload, e, &mut contexts, &mut statistics, p, &mut block);
+            read_from(
+                out,
+                payload,
+                e,
+                &mut contexts,
+                &mut statistics,
+                p,
+                &mut block,
+            )
         }
-        State::Refused(m) => words::refused(m),
+        State::Refused(m) => words::refused(out, m),
     }
 }
 
@@ -161,37 +184,40 @@ fn payload_length(high: u8, low: u8) -> usize
 }
 
 // The frame of HEVC that stands at the front of the text.
-fn hevc_frame(text: &[u8]) {
+fn hevc_frame(out: &impl Print, text: &[u8]) -> io::Result<()> {
     let mut header = [0u8; 8];
     let mut values = [0u8; CONTEXTS];
     let mut bytes = [0u8; MOST];
     if text.len() < HEADER_DIGITS {
-        write::line(b"bad input: it ends within the first 8 bytes of a frame");
-        return;
+        return write::line(
+            out,
+            b"bad input: it ends within the first 8 bytes of a frame",
+        );
     }
     if !spelled(part(text, 0, HEADER_DIGITS), &mut header) {
-        write::line(b"bad input: the first 8 bytes are not lower-case hexadecimal");
-        return;
+        return write::line(
+            out,
+            b"bad input: the first 8 bytes are not lower-case hexadecimal",
+        );
     }
     let length = payload_length(header[6], header[7]);
     if MOST < length {
-        write::line(b"bad input: the payload length is over 4096");
-        return;
+        return write::line(out, b"bad input: the payload length is over 4096");
     }
     let end = FRONT_DIGITS + 2 * length;
     if text.len() < end {
-        write::line(b"bad input: it ends before the payload does");
-        return;
+        return write::line(out, b"bad input: it ends before the payload does");
     }
     if !spelled(part(text, HEADER_DIGITS, FRONT_DIGITS), &mut values) {
-        write::line(b"bad input: the initial values are not lower-case hexadecimal");
-        return;
+        return write::line(
+            out,
+            b"bad input: the initial values are not lower-case hexadecimal",
+        );
     }
     if !spelled(part(text, FRONT_DIGITS, end), &mut bytes) {
-        write::line(b"bad input: the payload is not lower-case hexadecimal");
-        return;
+        return write::line(out, b"bad input: the payload is not lower-case hexadecimal");
     }
-    read(&header, &values, part(&bytes, 0, length));
+    read(out, &header, &values, part(&bytes, 0, length))
 }
 
 // QP, length and pairs.
@@ -200,32 +226,36 @@ const OLD_FRONT: usize = 83;
 const OLD_FRONT_DIGITS: usize = 2 * OLD_FRONT;
 
 // The frame of H.264 that stands at the front of the text.
-fn old_frame(text: &[u8]) {
+fn old_frame(out: &impl Print, text: &[u8]) -> io::Result<()> {
     let mut front = [0u8; 3];
     let mut bytes = [0u8; OLD_FRONT + MOST];
     if text.len() < OLD_FRONT_DIGITS {
-        write::line(b"bad input: it ends within QP, payload length and pairs");
-        return;
+        return write::line(
+            out,
+            b"bad input: it ends within QP, payload length and pairs",
+        );
     }
     if !spelled(part(text, 0, 6), &mut front) {
-        write::line(b"bad input: QP and payload length are not lower-case hexadecimal");
-        return;
+        return write::line(
+            out,
+            b"bad input: QP and payload length are not lower-case hexadecimal",
+        );
     }
     let length = payload_length(front[1], front[2]);
     if MOST < length {
-        write::line(b"bad input: the payload length is over 4096");
-        return;
+        return write::line(out, b"bad input: the payload length is over 4096");
     }
     let end = OLD_FRONT_DIGITS + 2 * length;
     if text.len() < end {
-        write::line(b"bad input: it ends before the payload does");
-        return;
+        return write::line(out, b"bad input: it ends before the payload does");
     }
     if !spelled(part(text, 0, end), &mut bytes) {
-        write::line(b"bad input: the pairs or the payload are not lower-case hexadecimal");
-        return;
+        return write::line(
+            out,
+            b"bad input: the pairs or the payload are not lower-case hexadecimal",
+        );
     }
-    h264::frame(part(&bytes, 0, OLD_FRONT + length), length);
+    h264::frame(out, part(&bytes, 0, OLD_FRONT + length), length)
 }
 
 // Whether the text begins with the word.
@@ -233,37 +263,38 @@ fn is_h264(text: &[u8]) -> bool {
     same(part(text, 0, 5), b"h264 ")
 }
 
-fn frame(text: &[u8]) {
+fn frame(out: &impl Print, text: &[u8]) -> io::Result<()> {
     if is_h264(text) {
-        old_frame(part(text, 5, text.len()));
+        old_frame(out, part(text, 5, text.len()))
     } else {
-        hevc_frame(text);
+        hevc_frame(out, text)
     }
 }
 
 // An empty line between two frames.
-fn next_frame(text: &[u8], from: usize) {
+fn next_frame(out: &impl Print, text: &[u8], from: usize) -> io::Result<()> {
     if 0 < from {
-        write::end_line();
+        write::end_line(out)?;
     }
-    frame(text);
+    frame(out, text)
 }
 
 // A frame a line; no line at all is a frame that ends too early.
-fn frames(text: &[u8]) {
+fn frames(out: &impl Print, text: &[u8]) -> io::Result<()> {
     if text.len() == 0 {
-        frame(text);
+        frame(out, text)?;
     }
     let mut from: usize = 0;
     while from < text.len() {
         let to = find(text, from, text.len(), b'\n');
-        next_frame(part(text, from, to), from);
+        next_frame(out, part(text, from, to), from)?;
         from = to + 1;
     }
+    Ok(())
 }
 
-fn main() {
-    let mut buffer = io::large_buffer();
-    let n = io::read_full(STDIN_FILENO, &mut buffer);
-    frames(part(&buffer, 0, n));
+fn main(rt: HostRuntime) -> io::Result<()> {
+    let mut buffer = [0u8; MOST_READ];
+    let n = read_full(&mut rt.stdin(), &mut buffer)?;
+    frames(&rt.stdout(), part(&buffer, 0, n))
 }

@@ -3,6 +3,7 @@ ghost use Rattle.std.specs.Prelude.{◌≤◌};
 
 use hevc_kept_whole::whole::recount;
 use hevc_summary::kept::{Form, Whole};
+use std::io;
 use text::write;
 
 fn side(log2: u32) -> usize
@@ -27,30 +28,31 @@ fn subs(log2: u32) -> usize
     }
 }
 
-fn mark(count: u32) {
+fn mark(out: &impl Print, count: u32) -> io::Result<()> {
     if count == 0 {
-        write::text(b" .");
+        write::text(out, b" .")
     } else {
-        write::text(b" #");
+        write::text(out, b" #")
     }
 }
 
 // Row by row: # where a sub-block holds a level.
-fn map(counts: &[u32; 64], log2: u32) {
+fn map(out: &impl Print, counts: &[u32; 64], log2: u32) -> io::Result<()> {
     let n = side(log2);
     let end = subs(log2);
     let mut s: usize = 0;
     while s < end {
-        mark(counts[s]);
+        mark(out, counts[s])?;
         s += 1;
         if s % n == 0 {
-            write::end_line();
+            write::end_line(out)?;
         }
     }
+    Ok(())
 }
 
 // The range has no part in a fresh count: any will do.
-pub fn of(block: &[i32; 1024], log2: u32) {
+pub fn of(out: &impl Print, block: &[i32; 1024], log2: u32) -> io::Result<()> {
     let mut counts = [0u32; 64];
     let mut sums = [0u64; 64];
     let form = Form { log2, bits: 15 };
@@ -61,12 +63,12 @@ pub fn of(block: &[i32; 1024], log2: u32) {
     };
     let r = recount(block, &mut counts, &mut sums, form, none);
     let whole = r.whole;
-    write::text(b"levels not zero     ");
-    write::decimal(whole.count);
-    write::end_line();
-    write::text(b"sum of magnitudes   ");
-    write::decimal(whole.sum);
-    write::end_line();
-    write::line(b"sub-blocks with one");
-    map(&counts, log2);
+    write::text(out, b"levels not zero     ")?;
+    write::decimal(out, whole.count)?;
+    write::end_line(out)?;
+    write::text(out, b"sum of magnitudes   ")?;
+    write::decimal(out, whole.sum)?;
+    write::end_line(out)?;
+    write::line(out, b"sub-blocks with one")?;
+    map(out, &counts, log2)
 }

@@ -2,47 +2,51 @@
 use bins::state::Engine;
 use hevc_residual::answers::Found;
 use hevc_residual::params::Rdpcm;
+use std::io;
 use text::write;
 
-fn reason(n: u32) {
+fn reason(out: &impl Print, n: u32) -> io::Result<()> {
     match n {
-        1 => write::text(b"payload under 2 bytes"),
-        2 => write::text(b"payload over 16,777,216 bytes"),
-        3 => write::text(b"impossible state"),
-        4 => write::text(b"parameter out of its limits"),
-        5 => write::text(b"starting offset 510 or 511"),
-        6 => write::text(b"engine has ended"),
-        7 => write::text(b"alignment wanted while the offset is 256 or more"),
-        8 => write::text(b"level outside the coefficient range"),
-        9 => write::text(b"writer: all levels zero"),
-        10 => write::text(b"writer: skip or RDPCM set where it isn't coded"),
-        11 => write::text(b"writer: a hidden sign disagrees with its parity"),
-        12 => write::text(b"writer: list longer than the room"),
-        13 => write::text(b"bin reader: list ends early, has another tag, or has bins left over"),
-        _ => write::text(b"another reason"),
+        1 => write::text(out, b"payload under 2 bytes"),
+        2 => write::text(out, b"payload over 16,777,216 bytes"),
+        3 => write::text(out, b"impossible state"),
+        4 => write::text(out, b"parameter out of its limits"),
+        5 => write::text(out, b"starting offset 510 or 511"),
+        6 => write::text(out, b"engine has ended"),
+        7 => write::text(out, b"alignment wanted while the offset is 256 or more"),
+        8 => write::text(out, b"level outside the coefficient range"),
+        9 => write::text(out, b"writer: all levels zero"),
+        10 => write::text(out, b"writer: skip or RDPCM set where it isn't coded"),
+        11 => write::text(out, b"writer: a hidden sign disagrees with its parity"),
+        12 => write::text(out, b"writer: list longer than the room"),
+        13 => write::text(
+            out,
+            b"bin reader: list ends early, has another tag, or has bins left over",
+        ),
+        _ => write::text(out, b"another reason"),
     }
 }
 
-pub fn refused(n: u32) {
-    write::text(b"refused, number ");
-    write::decimal32(n);
-    write::text(b": ");
-    reason(n);
-    write::end_line();
+pub fn refused(out: &impl Print, n: u32) -> io::Result<()> {
+    write::text(out, b"refused, number ")?;
+    write::decimal32(out, n)?;
+    write::text(out, b": ")?;
+    reason(out, n)?;
+    write::end_line(out)
 }
 
-fn yes_or_no(on: bool) {
+fn yes_or_no(out: &impl Print, on: bool) -> io::Result<()> {
     if on {
-        write::line(b"yes");
+        write::line(out, b"yes")
     } else {
-        write::line(b"no");
+        write::line(out, b"no")
     }
 }
 
-fn named(name: &[u8], n: u32) {
-    write::text(name);
-    write::decimal32(n);
-    write::end_line();
+fn named(out: &impl Print, name: &[u8], n: u32) -> io::Result<()> {
+    write::text(out, name)?;
+    write::decimal32(out, n)?;
+    write::end_line(out)
 }
 
 fn side(log2: u32) -> u32 {
@@ -54,48 +58,48 @@ fn side(log2: u32) -> u32 {
     }
 }
 
-pub fn size(log2: u32, luma: bool) {
-    write::text(b"accepted: ");
-    write::decimal32(side(log2));
-    write::text(b" by ");
-    write::decimal32(side(log2));
+pub fn size(out: &impl Print, log2: u32, luma: bool) -> io::Result<()> {
+    write::text(out, b"accepted: ")?;
+    write::decimal32(out, side(log2))?;
+    write::text(out, b" by ")?;
+    write::decimal32(out, side(log2))?;
     if luma {
-        write::line(b", luma");
+        write::line(out, b", luma")
     } else {
-        write::line(b", chroma");
+        write::line(out, b", chroma")
     }
 }
 
-fn rdpcm(r: Rdpcm) {
+fn rdpcm(out: &impl Print, r: Rdpcm) -> io::Result<()> {
     match r {
-        Rdpcm::None => write::line(b"none"),
-        Rdpcm::Horizontal => write::line(b"horizontal"),
-        Rdpcm::Vertical => write::line(b"vertical"),
+        Rdpcm::None => write::line(out, b"none"),
+        Rdpcm::Horizontal => write::line(out, b"horizontal"),
+        Rdpcm::Vertical => write::line(out, b"vertical"),
     }
 }
 
 // An extent, and what it says.
-fn reach(name: &[u8], n: u32, beyond: &[u8]) {
-    write::text(name);
-    write::decimal32(n);
-    write::text(beyond);
-    write::decimal32(n);
-    write::line(b" are zero");
+fn reach(out: &impl Print, name: &[u8], n: u32, beyond: &[u8]) -> io::Result<()> {
+    write::text(out, name)?;
+    write::decimal32(out, n)?;
+    write::text(out, beyond)?;
+    write::decimal32(out, n)?;
+    write::line(out, b" are zero")
 }
 
-pub fn found(f: Found) {
-    write::text(b"transform skip      ");
-    yes_or_no(f.skip);
-    write::text(b"explicit RDPCM      ");
+pub fn found(out: &impl Print, f: Found) -> io::Result<()> {
+    write::text(out, b"transform skip      ")?;
+    yes_or_no(out, f.skip)?;
+    write::text(out, b"explicit RDPCM      ")?;
     let direction = f.rdpcm;
-    rdpcm(direction);
-    reach(b"column extent       ", f.column, b", columns beyond ");
-    reach(b"row extent          ", f.row, b", rows beyond ");
-    greatest(f.greatest);
+    rdpcm(out, direction)?;
+    reach(out, b"column extent       ", f.column, b", columns beyond ")?;
+    reach(out, b"row extent          ", f.row, b", rows beyond ")?;
+    greatest(out, f.greatest)
 }
 
-pub fn greatest(n: u32) {
-    named(b"greatest magnitude  ", n);
+pub fn greatest(out: &impl Print, n: u32) -> io::Result<()> {
+    named(out, b"greatest magnitude  ", n)
 }
 
 // Whole bytes that hold so many bits.
@@ -106,37 +110,36 @@ fn bytes_of(bits: u32) -> u32 {
     bits / 8 + 1
 }
 
-fn missing(bytes: u32) {
+fn missing(out: &impl Print, bytes: u32) -> io::Result<()> {
     if bytes == 0 {
-        write::line(b"nothing is missing");
-        return;
+        return write::line(out, b"nothing is missing");
     }
-    write::text(b"about ");
-    write::decimal32(bytes);
+    write::text(out, b"about ")?;
+    write::decimal32(out, bytes)?;
     if bytes == 1 {
-        write::line(b" byte is missing");
+        write::line(out, b" byte is missing")
     } else {
-        write::line(b" bytes are missing");
+        write::line(out, b" bytes are missing")
     }
 }
 
 // One block draws less than the 65,535 bits at which a total stops.
-fn past_the_end(bits: u32) {
-    write::decimal32(bits);
+fn past_the_end(out: &impl Print, bits: u32) -> io::Result<()> {
+    write::decimal32(out, bits)?;
     if bits == 1 {
-        write::text(b" bit past the end: ");
+        write::text(out, b" bit past the end: ")?;
     } else {
-        write::text(b" bits past the end: ");
+        write::text(out, b" bits past the end: ")?;
     }
-    missing(bytes_of(bits));
+    missing(out, bytes_of(bits))
 }
 
 // Bits of the payload, of so many bytes; and those past its end.
-pub fn drawn(e: Engine, bytes: usize) {
-    write::text(b"bits drawn          ");
-    write::count(e.position.0);
-    write::text(b", of a payload of ");
-    write::count(bytes);
-    write::line(b" bytes");
-    past_the_end(e.past);
+pub fn drawn(out: &impl Print, e: Engine, bytes: usize) -> io::Result<()> {
+    write::text(out, b"bits drawn          ")?;
+    write::count(out, e.position.0)?;
+    write::text(out, b", of a payload of ")?;
+    write::count(out, bytes)?;
+    write::line(out, b" bytes")?;
+    past_the_end(out, e.past)
 }

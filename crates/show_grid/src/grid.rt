@@ -5,6 +5,7 @@ ghost use Rattle.std.specs.Prelude.{◌≤◌};
 use grid_places::places::{first_of, side};
 use level_sizes::sizes::magnitude;
 use show_form::form::{Form, columns_that_fit, digits, form_of, least, less, level};
+use std::io;
 use text::lines::part;
 use text::write;
 
@@ -16,20 +17,20 @@ fn length(v: i32) -> usize
     if v < 0 { n + 1 } else { n }
 }
 
-fn spaces(n: usize) {
-    write::text(part(b"          ", 0, n));
+fn spaces(out: &impl Print, n: usize) -> io::Result<()> {
+    write::text(out, part(b"          ", 0, n))
 }
 
 // Right in a cell of a width.
-fn number(v: i32, width: usize) {
+fn number(out: &impl Print, v: i32, width: usize) -> io::Result<()> {
     let n = length(v);
     if n < width {
-        spaces(width - n);
+        spaces(out, width - n)?;
     }
     if v == 0 {
-        write::text(b".");
+        write::text(out, b".")
     } else {
-        write::signed(v);
+        write::signed(out, v)
     }
 }
 
@@ -40,120 +41,134 @@ fn is_large(v: i32, greatest: u32) -> bool {
     greatest / 2 < magnitude(v)
 }
 
-fn cell(v: i32, f: Form) {
+fn cell(out: &impl Print, v: i32, f: Form) -> io::Result<()> {
     if !f.brackets {
-        number(v, f.width);
-        return;
+        return number(out, v, f.width);
     }
     let width = digits(f.greatest) + 1;
     if is_large(v, f.greatest) {
-        write::text(b"[");
-        number(v, width);
-        write::text(b"]");
-        return;
+        write::text(out, b"[")?;
+        number(out, v, width)?;
+        return write::text(out, b"]");
     }
-    write::text(b" ");
-    number(v, width);
-    write::text(b" ");
+    write::text(out, b" ")?;
+    number(out, v, width)?;
+    write::text(out, b" ")
 }
 
 // A row's or a column's number, right in a width.
-fn label(n: usize, width: usize) {
+fn label(out: &impl Print, n: usize, width: usize) -> io::Result<()> {
     if n < 10 {
-        spaces(less(width, 1));
+        spaces(out, less(width, 1))?;
     } else {
-        spaces(less(width, 2));
+        spaces(out, less(width, 2))?;
     }
-    write::count(n);
+    write::count(out, n)
 }
 
 // A column's number; where cells are narrow, of each sub-block's first alone.
-fn head(column: usize, width: usize) {
+fn head(out: &impl Print, column: usize, width: usize) -> io::Result<()> {
     if column % 4 == 0 {
-        write::text(b" ");
-        label(column, width);
-        return;
+        write::text(out, b" ")?;
+        return label(out, column, width);
     }
     if width < 3 {
-        spaces(width);
-        return;
+        return spaces(out, width);
     }
-    label(column, width);
+    label(out, column, width)
 }
 
-fn heads(from: usize, to: usize, width: usize) {
+fn heads(out: &impl Print, from: usize, to: usize, width: usize) -> io::Result<()> {
     let mut column = from;
     while column < to {
-        head(column, width);
+        head(out, column, width)?;
         column += 1;
     }
-    write::end_line();
+    write::end_line(out)
 }
 
 // The line above a row of sub-blocks.
-fn rule(from: usize, to: usize, width: usize) {
-    spaces(3);
+fn rule(out: &impl Print, from: usize, to: usize, width: usize) -> io::Result<()> {
+    spaces(out, 3)?;
     let mut column = from;
     while column < to {
-        border(column, b"+");
-        write::text(part(b"-----------", 0, width));
+        border(out, column, b"+")?;
+        write::text(out, part(b"-----------", 0, width))?;
         column += 1;
     }
-    write::end_line();
+    write::end_line(out)
 }
 
 // Before a sub-block's first column.
-fn border(column: usize, mark: &[u8]) {
+fn border(out: &impl Print, column: usize, mark: &[u8]) -> io::Result<()> {
     if column % 4 == 0 {
-        write::text(mark);
+        write::text(out, mark)?;
     }
+    Ok(())
 }
 
-fn row_of(block: &[i32; 1024], log2: u32, row: usize, from: usize, to: usize, f: Form) {
-    label(row, 2);
-    write::text(b" ");
+fn row_of(
+    out: &impl Print,
+    block: &[i32; 1024],
+    log2: u32,
+    row: usize,
+    from: usize,
+    to: usize,
+    f: Form,
+) -> io::Result<()> {
+    label(out, row, 2)?;
+    write::text(out, b" ")?;
     let first = first_of(log2, row);
     let mut column = from;
     while column < to {
-        border(column, b"|");
-        cell(level(block, first, column), f);
+        border(out, column, b"|")?;
+        cell(out, level(block, first, column), f)?;
         column += 1;
     }
-    write::end_line();
+    write::end_line(out)
 }
 
 // Before the columns' numbers, which stand above those of the cells: these end one place before a bracket.
-fn margin(f: Form) {
+fn margin(out: &impl Print, f: Form) -> io::Result<()> {
     if f.brackets {
-        spaces(2);
+        spaces(out, 2)
     } else {
-        spaces(3);
+        spaces(out, 3)
     }
 }
 
 // All rows of some columns.
-fn panel(block: &[i32; 1024], log2: u32, from: usize, to: usize, f: Form) {
-    margin(f);
-    heads(from, to, f.width);
+fn panel(
+    out: &impl Print,
+    block: &[i32; 1024],
+    log2: u32,
+    from: usize,
+    to: usize,
+    f: Form,
+) -> io::Result<()> {
+    margin(out, f)?;
+    heads(out, from, to, f.width)?;
     let n = side(log2);
     let mut row: usize = 0;
     while row < n {
         if row % 4 == 0 {
-            rule(from, to, f.width);
+            rule(out, from, to, f.width)?;
         }
-        row_of(block, log2, row, from, to, f);
+        row_of(out, block, log2, row, from, to, f)?;
         row += 1;
     }
+    Ok(())
 }
 
 // Panel by panel.
-pub fn levels(block: &[i32; 1024], log2: u32, greatest: u32) {
+pub fn levels(out: &impl Print, block: &[i32; 1024], log2: u32, greatest: u32) -> io::Result<()> {
     let f = form_of(log2, greatest);
     let n = side(log2);
     let step = columns_that_fit(f.width);
     let mut from: usize = 0;
     while from < n {
-        panel(block, log2, from, least(from + step, n), f);
+        panel(out, block, log2, from, least(from + step, n), f)?;
         from += step;
     }
+    Ok(())
 }

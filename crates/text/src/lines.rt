@@ -1,11 +1,13 @@
-// The lines of standard input, through a buffer that the program lends.
-// What reads from standard input promises that a line lies in the buffer, and not which it is: no contract can say what the operating system hands over.
-ghost use Rattle.std.specs.Prelude.{◌≡◌, ◌≤◌, ◌-◌, min, length};
-ghost use Rattle.bytes.specs.Bytes.{slice};
+// The lines of a reader, as standard input, through a buffer that the program lends.
+// What reads promises that a line lies in the buffer, and not which it is: no contract can say what the operating system hands over.
+// Where the reader fails the error is answered, and what stands in the buffer is no matter then.
+ghost use Rattle.std.specs.Prelude.{◌≡◌, ◌≤◌, ◌-◌, min, length, IfOk};
+ghost use Rattle.octet_scan.specs.Octets.{slice};
 ghost use Rattle.text.specs.Lines.{Lies};
 
-use bytes::scan::find;
-use libc::STDIN_FILENO;
+use octet_scan::find;
+use std::io;
+use std::io::Read;
 
 // What was read into the buffer and is not handed out yet.
 #[derive(Clone, Copy)]
@@ -48,52 +50,67 @@ fn move_down(buf: &mut [u8], from: usize, to: usize) -> usize
     n
 }
 
-// Moves what is left to the front and fills the buffer behind it; answers where what was read ends.
-fn refill(buf: &mut [u8], from: usize, to: usize) -> usize
-    requires { (from ≤ to) × (to ≤ length buf.old) }
-    ensures { result ≤ length buf.new }
+// Reads until the buffer is full or the input ends; answers how much was read.
+pub fn read_full(input: &mut impl Read, buf: &mut [u8]) -> io::Result<usize>
+    ensures { IfOk result (λ n. n ≤ length buf.new) }
 {
-    let kept = move_down(buf, from, to);
-    let got = io::read_full(STDIN_FILENO, &mut buf[kept..]);
-    kept + got
+    let mut done: usize = 0;
+    while done < buf.len() {
+        let n = input.read(&mut buf[done..])?;
+        if n == 0 {
+            return Ok(done);
+        }
+        done += n;
+    }
+    Ok(done)
 }
 
-// The next line of standard input, without its line feed. A line that the buffer cannot hold is too long.
-pub fn next(buf: &mut [u8], w: Window) -> Line
-    ensures { Lies (length buf.new) result }
+// Moves what is left to the front and fills the buffer behind it; answers where what was read ends.
+fn refill(input: &mut impl Read, buf: &mut [u8], from: usize, to: usize) -> io::Result<usize>
+    requires { (from ≤ to) × (to ≤ length buf.old) }
+    ensures { IfOk result (λ n. n ≤ length buf.new) }
+{
+    let kept = move_down(buf, from, to);
+    let got = read_full(input, &mut buf[kept..])?;
+    Ok(kept + got)
+}
+
+// The next line, without its line feed. A line that the buffer cannot hold is too long.
+pub fn next(input: &mut impl Read, buf: &mut [u8], w: Window) -> io::Result<Line>
+    ensures { IfOk result (Lies (length buf.new)) }
 {
     let to = least(w.to, buf.len());
     let from = least(w.from, to);
     let end = find(buf, from, to, b'\n');
     if end < to {
-        return Line::Is(from, end, Window { from: end + 1, to });
+        return Ok(Line::Is(from, end, Window { from: end + 1, to }));
     }
-    let filled = refill(buf, from, to);
+    let filled = refill(input, buf, from, to)?;
     if filled == 0 {
-        return Line::Ended;
+        return Ok(Line::Ended);
     }
     let stop = find(buf, 0, filled, b'\n');
     if stop < filled {
-        return Line::Is(
+        return Ok(Line::Is(
             0,
             stop,
             Window {
                 from: stop + 1,
                 to: filled,
             },
-        );
+        ));
     }
     if filled < buf.len() {
-        return Line::Is(
+        return Ok(Line::Is(
             0,
             filled,
             Window {
                 from: filled,
                 to: filled,
             },
-        );
+        ));
     }
-    Line::TooLong
+    Ok(Line::TooLong)
 }
 
 // What stands from one place up to another; less where the buffer ends before.

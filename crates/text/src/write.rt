@@ -1,33 +1,33 @@
-// Text, numbers and bytes to standard output. What could not be written is lost: the gate compares the output.
-// These functions promise nothing but to end: no contract can say what the operating system is handed. The numbers that
-// they hand on are io's, whose own contracts say which digits a number has.
+// Text, numbers and bytes to a printer that the program hands down: its standard output, or its standard error.
+// These functions promise nothing but to end: no contract can say what the operating system is handed. What could not be written is an error. The numbers that
+// they hand on are std's, whose own contracts say which digits a number has.
 ghost use Rattle.std.specs.Prelude.{◌≡◌, nat_abs};
 
-use libc::STDOUT_FILENO;
+use std::io;
 
-pub fn text(s: &[u8]) {
-    io::write_all(STDOUT_FILENO, s);
+pub fn text(out: &impl Print, s: &[u8]) -> io::Result<()> {
+    out.write_all(s)
 }
 
-pub fn end_line() {
-    text(b"\n");
+pub fn end_line(out: &impl Print) -> io::Result<()> {
+    text(out, b"\n")
 }
 
-pub fn line(s: &[u8]) {
-    text(s);
-    end_line();
+pub fn line(out: &impl Print, s: &[u8]) -> io::Result<()> {
+    text(out, s)?;
+    end_line(out)
 }
 
-pub fn decimal(n: u64) {
-    io::print_decimal(STDOUT_FILENO, n);
+pub fn decimal(out: &impl Print, n: u64) -> io::Result<()> {
+    out.print(n)
 }
 
-pub fn decimal32(n: u32) {
-    decimal(n as u64);
+pub fn decimal32(out: &impl Print, n: u32) -> io::Result<()> {
+    decimal(out, n as u64)
 }
 
-pub fn count(n: usize) {
-    decimal(n as u64);
+pub fn count(out: &impl Print, n: usize) -> io::Result<()> {
+    decimal(out, n as u64)
 }
 
 // The distance from 0; it fits even of the least i32.
@@ -40,57 +40,54 @@ pub fn magnitude(n: i32) -> u64
     n as u64
 }
 
-pub fn signed(n: i32) {
+pub fn signed(out: &impl Print, n: i32) -> io::Result<()> {
     if n < 0 {
-        text(b"-");
+        text(out, b"-")?;
     }
-    decimal(magnitude(n));
+    decimal(out, magnitude(n))
 }
 
-pub fn flag(on: bool) {
-    if on {
-        text(b"1");
-    } else {
-        text(b"0");
-    }
+pub fn flag(out: &impl Print, on: bool) -> io::Result<()> {
+    if on { text(out, b"1") } else { text(out, b"0") }
 }
 
 // A space and a number.
-pub fn spaced(n: u32) {
-    text(b" ");
-    decimal32(n);
+pub fn spaced(out: &impl Print, n: u32) -> io::Result<()> {
+    text(out, b" ")?;
+    decimal32(out, n)
 }
 
-pub fn spaced_count(n: usize) {
-    text(b" ");
-    count(n);
+pub fn spaced_count(out: &impl Print, n: usize) -> io::Result<()> {
+    text(out, b" ")?;
+    count(out, n)
 }
 
-pub fn spaced_flag(on: bool) {
-    text(b" ");
-    flag(on);
+pub fn spaced_flag(out: &impl Print, on: bool) -> io::Result<()> {
+    text(out, b" ")?;
+    flag(out, on)
 }
 
 // The place of an entry of a list, `place:`; a space goes before the first entry, a comma before each other.
-pub fn place(n: usize, first: bool) {
+pub fn place(out: &impl Print, n: usize, first: bool) -> io::Result<()> {
     if first {
-        text(b" ");
+        text(out, b" ")?;
     } else {
-        text(b",");
+        text(out, b",")?;
     }
-    count(n);
-    text(b":");
+    count(out, n)?;
+    text(out, b":")
 }
 
 // Two hexadecimal digits.
-pub fn hex(b: u8) {
-    io::print_hex(STDOUT_FILENO, b as u64, 2);
+pub fn hex(out: &impl Print, b: u8) -> io::Result<()> {
+    print!(out; "{b:02x}")
 }
 
-pub fn hex_bytes(s: &[u8]) {
+pub fn hex_bytes(out: &impl Print, s: &[u8]) -> io::Result<()> {
     let mut i = 0;
     while i < s.len() {
-        hex(s[i]);
+        hex(out, s[i])?;
         i += 1;
     }
+    Ok(())
 }

@@ -3,7 +3,7 @@ use Rattle.std.specs.Prelude.{ℕ, zero, suc, ◌+◌, ◌-◌, ◌≤◌, ◌<�
 use Rattle.std.proofs.Math.Nat.{min-eq_left, min-eq_right}
 use Rattle.std.proofs.Common.{arith, sym, ap, ◌∙◌, length-take, drop_of_length-le, take_all, drop-drop, take-add, drop_at, length-take-le, leb-true, leb-false}
 use Rattle.std.proofs.Math.Seq.{take-length, drop-length}
-use Rattle.bytes.specs.Bytes.{index_of, slice}
+use Rattle.octet_scan.specs.Octets.{index_of, slice}
 use Rattle.text_fields.specs.Fields.{from_field, before_space, field_of}
 
 -- ---- a space from a place on

@@ -1,6 +1,6 @@
 -- The fields of a line, counted from 0: a space parts one from the next.
 use Rattle.std.specs.Prelude.{ℕ, zero, suc, List, take, drop}
-use Rattle.bytes.specs.Bytes.{index_of}
+use Rattle.octet_scan.specs.Octets.{index_of}
 
 -- the line from its k-th field on; nothing where it has fewer
 unfoldable pub from_field : List ℕ → ℕ → List ℕ

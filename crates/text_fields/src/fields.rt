@@ -3,7 +3,7 @@ ghost use Rattle.std.specs.Prelude.{◌≡◌, ◌+◌, ◌-◌, ◌*◌, ◌≤
 ghost use Rattle.text_fields.specs.Fields.{from_field, field_of};
 ghost use Rattle.text_fields.specs.Spelled.{decimal_of};
 
-use bytes::scan::find;
+use octet_scan::find;
 
 // The place behind the k-th space, or the end where there are fewer.
 fn field_start(s: &[u8], k: usize) -> usize

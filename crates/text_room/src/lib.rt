@@ -4,7 +4,7 @@
 ghost use Rattle.std.specs.Prelude.{◌≡◌, ◌+◌, ◌≤◌, ◌++◌, length, take};
 ghost use Rattle.text_room.specs.Decimal.{decimal};
 
-use bytes::copy;
+use octet_scan::copy;
 
 // Puts s behind the first `at` bytes; answers the place behind it.
 pub fn put(s: &[u8], out: &mut [u8], at: usize) -> usize

@@ -11,6 +11,7 @@ use hevc_reader::entries::residual_coding;
 use hevc_residual::answers::Read;
 use hevc_residual::params::{Params, all_off};
 use same_answers::alike::{same_answer, same_contexts, same_levels, same_statistics};
+use std::io;
 use text::write;
 
 // 8x8 luma, scan 0, all options off.
@@ -18,29 +19,29 @@ fn params() -> Params {
     all_off(3, true, 0, 8, false)
 }
 
-fn show(r: Read) {
+fn show(out: &impl Print, r: Read) -> io::Result<()> {
     match r {
         Read::Block(f, e) => {
-            write::text(b"extents");
-            write::spaced(f.column);
-            write::spaced(f.row);
-            write::text(b", greatest");
-            write::spaced(f.greatest);
-            write::text(b", position");
-            write::spaced_count(e.position.0);
+            write::text(out, b"extents")?;
+            write::spaced(out, f.column)?;
+            write::spaced(out, f.row)?;
+            write::text(out, b", greatest")?;
+            write::spaced(out, f.greatest)?;
+            write::text(out, b", position")?;
+            write::spaced_count(out, e.position.0)
         }
         Read::Refused(n) => {
-            write::text(b"number");
-            write::spaced(n);
+            write::text(out, b"number")?;
+            write::spaced(out, n)
         }
     }
 }
 
-fn judge(same: bool) {
+fn judge(out: &impl Print, same: bool) -> io::Result<()> {
     if same {
-        write::line(b", the same");
+        write::line(out, b", the same")
     } else {
-        write::line(b", NOT THE SAME");
+        write::line(out, b", NOT THE SAME")
     }
 }
 
@@ -53,7 +54,13 @@ fn behind(r: Read, e: Engine) -> Engine {
 }
 
 // One block both ways; contexts and statistics go on.
-fn both(payload: &[u8], e: Engine, contexts: &mut [u8; CONTEXTS], stats: &mut [u8; 4]) -> Engine {
+fn both(
+    out: &impl Print,
+    payload: &[u8],
+    e: Engine,
+    contexts: &mut [u8; CONTEXTS],
+    stats: &mut [u8; 4],
+) -> io::Result<Engine> {
     let p = params();
     let mut held_contexts = *contexts;
     let mut held_stats = *stats;
@@ -68,25 +75,28 @@ fn both(payload: &[u8], e: Engine, contexts: &mut [u8; CONTEXTS], stats: &mut [u
         &mut held_block,
     );
     let plain = residual_coding(payload, e, contexts, stats, p, &mut block);
-    show(held);
+    show(out, held)?;
     let answers = same_answer(held, plain);
     let levels = same_levels(&held_block, &block);
     let left = same_contexts(&held_contexts, contexts) & same_statistics(&held_stats, stats);
-    judge(answers & levels & left);
-    behind(held, e)
+    judge(out, answers & levels & left)?;
+    Ok(behind(held, e))
 }
 
-fn run(payload: &[u8]) {
+fn run(out: &impl Print, payload: &[u8]) -> io::Result<()> {
     let State::Ready(e) = start(payload) else {
-        write::line(b"no start");
-        return;
+        return write::line(out, b"no start");
     };
     let mut contexts = [64u8; CONTEXTS];
     let mut stats = [0u8; 4];
-    let next = both(payload, e, &mut contexts, &mut stats);
-    both(payload, next, &mut contexts, &mut stats);
+    let next = both(out, payload, e, &mut contexts, &mut stats)?;
+    both(out, payload, next, &mut contexts, &mut stats)?;
+    Ok(())
 }
 
-fn main() {
-    run(b"Two blocks of one payload, one after the other, as any bytes make them.");
+fn main(rt: HostRuntime) -> io::Result<()> {
+    run(
+        &rt.stdout(),
+        b"Two blocks of one payload, one after the other, as any bytes make them.",
+    )
 }

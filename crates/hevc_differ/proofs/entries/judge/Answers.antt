@@ -3,7 +3,7 @@ use Rattle.cabac.specs.Numbers.{payload_refusal}
 use Rattle.cabac.specs.NumberLaws.{payload_passed}
 use Rattle.hevc_residual.specs.Answers.{payload_checks}
 use Rattle.hevc_reader.specs.EntriesLaws.{checks_passed}
-use Rattle.hevc_differ.specs.JudgementLaws.{all_past, all_place, judged_unread, judged_unreadable, judged_past, judged_place, place_here, place_never}
+use Rattle.hevc_differ.proofs.JudgementLaws.{all_past, all_place, judged_unread, judged_unreadable, judged_past, judged_place, place_here, place_never}
 use Rattle.hevc_differ.proofs.entries.judge.Goals as goal
 
 passed : (k : goal.After-reached-r) → let a = k.args in 0 ≡ payload_checks a.first.now a.e a.contexts.now a.stats.now a.p a.block.now

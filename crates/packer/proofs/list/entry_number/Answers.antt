@@ -8,8 +8,3 @@ overflow_cast-low c = omega (arith, c.type_inv.list c.args.i)
 pub overflow_cast-high : goal.overflow_cast-high
 overflow_cast-high c = omega (arith, c.type_inv.list (c.args.i + 1))
 
-pub overflow_mul-result : goal.overflow_mul-result
-overflow_mul-result c = omega (arith, c.type_inv.list c.args.i, c.type_inv.list.given (c.args.i + 1))
-
-pub overflow_add-result : goal.overflow_add-result
-overflow_add-result c = omega (arith, c.type_inv.list c.args.i, c.type_inv.list.given (c.args.i + 1))
