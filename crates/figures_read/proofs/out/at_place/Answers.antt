@@ -1,16 +1,11 @@
 use mathlib.Core.Path.{◌≡◌, sym, ◌∙◌}
 use native.Mathlib.Omega.{arith}
-use Rattle.figures.specs.Entries.{placeRefusal}
+use Rattle.figures.specs.Entries.{place_refusal}
 use Rattle.figures.specs.Agree.{held}
-use Rattle.figures.specs.OutLaws.{place_in, at-refused, at_done}
+use Rattle.figures.specs.OutLaws.{place_in, at_refused, at_done}
 use Rattle.figures_read.proofs.out.at_place.Goals as goal
 
-pub returns-then-n-ne0 : goal.returns-then-n-ne0
-returns-then-n-ne0 c =
-    let a = c.args in
-    λ k. at-refused (held a.totals a.blocks.now a.sums.now a.greatests.now k) a.place c.place_refusal-n.result c.place_refusal-n.ensures c.if-n-ne0.true
-
-passed : (c : goal.Else-n-ne0) → let a = c.args in 0 ≡ placeRefusal a.totals a.place
+passed : (c : goal.Else-n-ne0) → let a = c.args in 0 ≡ place_refusal a.totals a.place
 passed c = sym c.if-n-ne0.false ∙ c.place_refusal-n.ensures
 
 pub offset_bounds-blocks-place : goal.offset_bounds-blocks-place
@@ -35,3 +30,8 @@ pub returns : goal.returns
 returns c =
     let a = c.args in
     λ k. at_done (held a.totals a.blocks.now a.sums.now a.greatests.now k) a.place (passed c)
+
+pub returns-then-n-ne0 : goal.returns-then-n-ne0
+returns-then-n-ne0 c =
+    let a = c.args in
+    λ k. at_refused (held a.totals a.blocks.now a.sums.now a.greatests.now k) a.place c.place_refusal-n.result c.place_refusal-n.ensures c.if-n-ne0.true

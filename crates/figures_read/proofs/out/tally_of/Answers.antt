@@ -1,17 +1,12 @@
 use mathlib.Core.Path.{◌≡◌, sym, ◌∙◌}
 use native.Mathlib.Omega.{arith}
-use Rattle.figures.specs.Entries.{numberRefusal}
+use Rattle.figures.specs.Entries.{number_refusal}
 use Rattle.figures.specs.Agree.{held}
 use Rattle.figures.specs.CodeLaws.{number_in}
-use Rattle.figures.specs.OutLaws.{tally-no, tally-yes}
+use Rattle.figures.specs.OutLaws.{tally_no, tally_yes}
 use Rattle.figures_read.proofs.out.tally_of.Goals as goal
 
-pub returns-then-n-ne0 : goal.returns-then-n-ne0
-returns-then-n-ne0 c =
-    let a = c.args in
-    λ b s g. tally-no (held a.totals b s g a.tallies.now) a.number c.number_refusal-n.result c.number_refusal-n.ensures c.if-n-ne0.true
-
-passed : (c : goal.Else-n-ne0) → 0 ≡ numberRefusal c.args.number
+passed : (c : goal.Else-n-ne0) → 0 ≡ number_refusal c.args.number
 passed c = sym c.if-n-ne0.false ∙ c.number_refusal-n.ensures
 
 pub overflow_sub-at : goal.overflow_sub-at
@@ -23,4 +18,9 @@ bounds-tallies-at c = let h = number_in c.args.number (passed c) in omega arith
 pub returns : goal.returns
 returns c =
     let a = c.args in
-    λ b s g. tally-yes (held a.totals b s g a.tallies.now) a.number (passed c)
+    λ b s g. tally_yes (held a.totals b s g a.tallies.now) a.number (passed c)
+
+pub returns-then-n-ne0 : goal.returns-then-n-ne0
+returns-then-n-ne0 c =
+    let a = c.args in
+    λ b s g. tally_no (held a.totals b s g a.tallies.now) a.number c.number_refusal-n.result c.number_refusal-n.ensures c.if-n-ne0.true

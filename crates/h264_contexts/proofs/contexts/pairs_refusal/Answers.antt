@@ -18,17 +18,11 @@ loop-i-init c = (omega arith, refl)
 pub bounds-pairs-i : goal.bounds-pairs-i
 bounds-pairs-i c = omega arith
 
-pub returns-then-not-is_within : goal.returns-then-not-is_within
-returns-then-not-is_within c = let l = c.args.pairs.now in let f : SFits w32 (get_or l c.loop-i.i (pos 0)) = record { sfits = c.is_within-arg-1.given } in pairs_out l c.if-pairs-ne80.false (within_high l c.loop-i.i (omega arith) (within_back (get_or l c.loop-i.i (pos 0)) f c.is_within.result c.is_within.ensures ∙ not-true c.is_within.result c.if-not-is_within.true) c.loop-i.invariant.1)
-
 pub overflow_add-i : goal.overflow_add-i
 overflow_add-i c = omega arith
 
 pub loop-i-smaller : goal.loop-i-smaller
 loop-i-smaller c = omega arith
-
-pub loop-i-preserved : goal.loop-i-preserved
-loop-i-preserved c = let l = c.args.pairs.now in let f : SFits w32 (get_or l c.loop-i.i (pos 0)) = record { sfits = c.is_within-arg-1.given } in (omega arith, within_on l c.loop-i.i (omega arith) (within_back (get_or l c.loop-i.i (pos 0)) f c.is_within.result c.is_within.ensures ∙ not-false c.is_within.result c.if-not-is_within.false) c.loop-i.invariant.1)
 
 pub returns : goal.returns
 returns c = let l = c.args.pairs.now in pairs_fine l c.if-pairs-ne80.false (within_end l c.loop-i.i (omega arith) c.loop-i.invariant.1)

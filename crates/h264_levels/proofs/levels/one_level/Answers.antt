@@ -36,13 +36,6 @@ overflow_add-m c =
           c.magnitude-f.ensures a.block.now a.block.now _ _ c.in-Bin.is,
     )
 
-pub returns-then-not-in_range : goal.returns-then-not-in_range
-returns-then-not-in_range c =
-    let a = c.args in
-    level_out a.list a.bytes.now a.ones a.bigs a.k a.x a.contexts.now c.requires.0 c.magnitude-f.result c.magnitude-f.new.contexts c.magnitude-f.ensures
-    a.block.now a.block.now _ _ c.in-Bin.is c.decode_bypass-g.result c.decode_bypass-g.ensures _ _ c.in-Bin-g.is
-    (sym c.in_range.ensures ∙ not-true c.in_range.result c.if-not-in_range.true)
-
 pub store-requires : goal.store-requires
 store-requires c =
     let a = c.args in (
@@ -54,9 +47,16 @@ store-requires c =
       ),
     )
 
+pub returns-then-not-in_range : goal.returns-then-not-in_range
+returns-then-not-in_range c =
+    let a = c.args in
+    level_out a.list a.bytes.now a.ones a.bigs a.k a.x a.contexts.now c.requires.0 c.magnitude-f.result c.magnitude-f.new.contexts c.magnitude-f.ensures
+    a.block.now a.block.now _ _ c.in-Bin.is c.decode_bypass-g.result c.decode_bypass-g.ensures _ _ c.in-Bin-g.is
+    (sym c.in_range.ensures ∙ c.if-not-in_range.true)
+
 pub returns : goal.returns
 returns c =
     let a = c.args in
     level_got a.list a.bytes.now a.ones a.bigs a.k a.x a.contexts.now c.requires.0 c.magnitude-f.result c.magnitude-f.new.contexts c.magnitude-f.ensures
     a.block.now _ _ _ c.in-Bin.is c.decode_bypass-g.result c.decode_bypass-g.ensures _ _ c.in-Bin-g.is
-    (sym c.in_range.ensures ∙ not-false c.in_range.result c.if-not-in_range.false) c.store.ensures
+    (sym c.in_range.ensures ∙ c.if-not-in_range.false) c.store.ensures

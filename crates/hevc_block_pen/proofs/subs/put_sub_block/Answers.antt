@@ -40,7 +40,7 @@ returns-then-not-coded_now c =
       sub_none a.p a.h a.last a.lastin a.i a.xs a.ys c.requires.8 a.block.now a.coded.now a.c a.stats.now
           c.is_bare-flag.result c.is_bare-flag.ensures a.w c.requires.1 c.neighbours_of-neighbours.result c.neighbours_of-neighbours.ensures
           c.is_middle-middle.result c.is_middle-middle.ensures c.flag_number-number.result c.flag_number-number.ensures.0
-          _ _ c.put_coded_flag-y.ensures (sym c.coded_now.ensures ∙ not-true _ c.if-not-coded_now.true),
+          _ _ c.put_coded_flag-y.ensures (sym c.coded_now.ensures ∙ c.if-not-coded_now.true),
     )
 
 pub overflow_mul-coded : goal.overflow_mul-coded
@@ -97,7 +97,7 @@ returns-then-s-eq0 c =
       sub_empty a.p a.h a.last a.lastin a.i a.xs a.ys c.requires.8 a.block.now a.coded.now a.c a.stats.now
           c.is_bare-flag.result c.is_bare-flag.ensures a.w c.requires.1 c.neighbours_of-neighbours.result c.neighbours_of-neighbours.ensures
           c.is_middle-middle.result c.is_middle-middle.ensures c.flag_number-number.result c.flag_number-number.ensures.0
-          _ _ c.put_coded_flag-y.ensures (sym c.coded_now.ensures ∙ not-false _ c.if-not-coded_now.false)
+          _ _ c.put_coded_flag-y.ensures (sym c.coded_now.ensures ∙ c.if-not-coded_now.false)
           c.is_single.result c.is_single.ensures c.places_below.result c.places_below.ensures c.met.result c.met.ensures
           c.sig_numbers.result (held c) c.put_places-r.result.places _ c.levels_of-levels.result c.levels_of-levels.ensures c.put_places-r.ensures.1 c.if-s-eq0.true,
     )
@@ -125,7 +125,7 @@ returns c =
       sub_levels a.p a.h a.last a.lastin a.i a.xs a.ys c.requires.8 a.block.now a.coded.now a.c a.stats.now
           c.is_bare-flag.result c.is_bare-flag.ensures a.w c.requires.1 c.neighbours_of-neighbours.result c.neighbours_of-neighbours.ensures
           c.is_middle-middle.result c.is_middle-middle.ensures c.flag_number-number.result c.flag_number-number.ensures.0
-          _ _ c.put_coded_flag-y.ensures (sym c.coded_now.ensures ∙ not-false _ c.if-not-coded_now.false)
+          _ _ c.put_coded_flag-y.ensures (sym c.coded_now.ensures ∙ c.if-not-coded_now.false)
           c.is_single.result c.is_single.ensures c.places_below.result c.places_below.ensures c.met.result c.met.ensures
           c.sig_numbers.result (held c) c.put_places-r.result.places _ c.levels_of-levels.result c.levels_of-levels.ensures c.put_places-r.ensures.1 (omega (arith, c.if-s-eq0.false))
           c.ctxset_of.result c.ctxset_of.ensures.0 c.put_coeffs-q.result.carry _ _ c.put_coeffs-q.ensures.2,

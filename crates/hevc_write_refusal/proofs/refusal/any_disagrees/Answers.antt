@@ -1,4 +1,5 @@
-use borrow.Author.Tests.{not-true}
+use Rattle.std.specs.Prelude.{not}
+use Rattle.std.proofs.Common.{ap}
 use Prim.Native.Nat.{◌-◌}
 use native.Mathlib.Omega.{arith}
 use Rattle.hevc_write_refusal.specs.RefusalLaws.{nothing_hidden, agreeing_begins, agreeing_on, agreeing_not, agreeing_ends}
@@ -46,3 +47,6 @@ pub returns : goal.returns
 returns c =
     let a = c.args in
     agreeing_ends a.p c.requires.0 a.h a.block.now c.loop-i.i c.loop-i.invariant (omega (arith, c.loop-i-test.false, c.grid-n.ensures.0))
+
+pub returns-then-not-p : goal.returns-then-not-p
+returns-then-not-p c = let a = c.args in λ w g. nothing_hidden a.p w _ _ (ap not c.if-not-p.true)
