@@ -1,6 +1,5 @@
-use mathlib.Core.Path.{◌≡◌, sym, ◌∙◌}
+use mathlib.Core.Path.{sym, ◌∙◌}
 use native.Mathlib.Omega.{arith}
-use Rattle.hevc_summary.specs.Entries.{form_refusal}
 use Rattle.hevc_summary.specs.TrueLaws.{fresh_true}
 use Rattle.hevc_summary.specs.EntryLaws.{form_passed, refused_keeps, fresh_keeps}
 use Rattle.hevc_summary.specs.CodeLaws.{clear_refused, clear_done, zeros_length}

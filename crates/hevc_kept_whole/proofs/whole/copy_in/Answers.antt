@@ -1,7 +1,6 @@
 use Prim.Native.Nat.{◌^◌}
-use mathlib.Core.Path.{◌≡◌, sym, ap, ◌∙◌}
+use mathlib.Core.Path.{sym, ap, ◌∙◌}
 use native.Mathlib.Omega.{arith}
-use Rattle.hevc_summary.specs.Entries.{copy_refusal}
 use Rattle.hevc_summary.specs.TrueLaws.{fresh_true}
 use Rattle.hevc_summary.specs.EntryLaws.{copy_passed, refused_keeps, fresh_keeps}
 use Rattle.hevc_summary.specs.CodeLaws.{copy_refused, copy_done, copied_length}

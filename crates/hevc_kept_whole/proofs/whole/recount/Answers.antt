@@ -1,5 +1,4 @@
-use mathlib.Core.Path.{◌≡◌, sym, ◌∙◌}
-use Rattle.hevc_summary.specs.Entries.{form_refusal}
+use mathlib.Core.Path.{sym, ◌∙◌}
 use Rattle.hevc_summary.specs.TrueLaws.{fresh_true}
 use Rattle.hevc_summary.specs.EntryLaws.{form_passed, refused_keeps, fresh_keeps}
 use Rattle.hevc_summary.specs.CodeLaws.{recount_refused, recount_done}
