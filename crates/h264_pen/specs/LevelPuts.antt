@@ -1,18 +1,17 @@
 -- The levels as their code puts them, and the whole block. Assumes nothing.
-use Rattle.std.specs.Prelude.{ℕ, zero, suc, ◌+◌, ◌-◌, ◌≤◌, ◌<◌, ◌≡◌, Bool, true, false, cond, List, [], ◌∷◌, ltb, ℤ, pos, length, set, replicate}
+use Rattle.std.specs.Prelude.{ℕ, suc, ◌+◌, ◌-◌, ◌≤◌, ◌<◌, ◌≡◌, Bool, true, false, cond, List, [], ◌∷◌, ltb, ℤ, pos, length, set, replicate}
 use Rattle.std.proofs.Math.Path.{refl, ap, subst}
 use Rattle.std.proofs.Common.{sym, ◌∙◌, add-one, lt-ltb, le-ltb, leb-true, ltb-true}
 use native.Mathlib.Omega.{arith}
 use Rattle.std.proofs.Math.IntN.{nat_abs}
 use Rattle.bins.specs.Tags.{tag, bypass_no}
-use Rattle.bins.specs.Syn.{Syn, done, stop, bypass, ◌>>=◌}
+use Rattle.bins.specs.Syn.{done, stop, bypass, ◌>>=◌}
 use Rattle.trees.specs.Levels.{negative, signed, in_range, down_from}
 use Rattle.trees.specs.LevelLaws.{signed_of}
 use Rattle.trees.specs.Pick.{picked}
 use Rattle.pen.specs.Sheet.{Sheet, entered, Wrote}
 use Rattle.pen.specs.SheetLaws.{wrote_none, wrote_on, wrote_bypass, wrote_then}
 use Rattle.h264_block.specs.Block.{S, level_at, is_sig, sig_places, places_s, magnitude_s, levels_s, block}
-use Rattle.h264_block.specs.Writable.{Writable}
 
 ranged_most : (neg : Bool) (m : ℕ) → in_range 15 neg m ≡ true → m ≤ 32768
 ranged_most true m e = leb-true m 32768 e

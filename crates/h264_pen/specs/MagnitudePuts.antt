@@ -1,11 +1,11 @@
 -- A magnitude as its code puts it. Assumes nothing.
-use Rattle.std.specs.Prelude.{ℕ, zero, suc, ◌+◌, ◌-◌, ◌^◌, ◌≤◌, ◌<◌, min, ◌≡◌, Bool, true, false, cond, List, ltb, leb, ℤ}
+use Rattle.std.specs.Prelude.{ℕ, suc, ◌+◌, ◌-◌, ◌^◌, ◌≤◌, ◌<◌, min, ◌≡◌, Bool, true, false, cond, List, ltb, leb, ℤ}
 use Rattle.std.proofs.Math.Path.{refl, ap, subst}
 use Rattle.std.proofs.Common.{sym, ◌∙◌, ltb-true, ltb-false, lt-ltb, le-leb}
 use native.Mathlib.Omega.{arith}
 use Rattle.std.proofs.lemmas.Bool.{lt-leb}
-use Rattle.bins.specs.Syn.{Syn, done, ◌>>=◌}
-use Rattle.bins.specs.Readers.{bits_s, ones_s}
+use Rattle.bins.specs.Syn.{done, ◌>>=◌}
+use Rattle.bins.specs.Readers.{bits_s}
 use Rattle.trees.specs.Shapes.{eg_base, first_then, count_s, golomb_s}
 use Rattle.pen.specs.Sheet.{Sheet, Wrote, Counts}
 use Rattle.pen.specs.SheetLaws.{wrote_then, wrote_call}

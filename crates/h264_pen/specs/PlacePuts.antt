@@ -1,16 +1,16 @@
 -- The significant places as their code puts them. Assumes nothing.
-use Rattle.std.specs.Prelude.{ℕ, zero, suc, ◌+◌, ◌-◌, ◌≤◌, ◌<◌, ◌≡◌, Bool, cond, List, [], ◌∷◌, ltb, ℤ, nat_abs, length}
+use Rattle.std.specs.Prelude.{ℕ, suc, ◌+◌, ◌-◌, ◌≤◌, ◌<◌, ◌≡◌, Bool, cond, List, [], ◌∷◌, ℤ, nat_abs, length}
 use Rattle.std.proofs.Math.Path.{refl, sym, subst}
 use Rattle.std.proofs.Common.{ap, ◌∙◌, arith, add-one, lt-ltb, le-ltb, eq-eqb, ne_eqb, eqb-true}
 use Rattle.std.proofs.Math.Bool.{true, false}
 use Rattle.std.proofs.Math.Dec.{eqb}
 use Rattle.std.proofs.lemmas.Bool.{eqb-false}
 use Rattle.bins.specs.Tags.{tag}
-use Rattle.bins.specs.Syn.{Syn, done, bin}
+use Rattle.bins.specs.Syn.{done, bin}
 use Rattle.trees.specs.Levels.{down_from}
 use Rattle.trees.specs.ListLaws.{down_first}
 use Rattle.pen.specs.Sheet.{Sheet, entered, Wrote}
-use Rattle.pen.specs.SheetLaws.{entered_long, wrote_none, wrote_on, wrote_bin}
+use Rattle.pen.specs.SheetLaws.{wrote_none, wrote_on, wrote_bin}
 use Rattle.h264_block.specs.Layout.{at_significance, at_last}
 use Rattle.h264_block.specs.Block.{S, level_at, is_sig, sig_places, first_of, places_s}
 use Rattle.h264_block.specs.PlaceLaws.{Last}

@@ -4,7 +4,7 @@ use Rattle.std.proofs.Common.{sym, ap, subst, ◌∙◌, arith}
 use Rattle.cabac.specs.Numbers.{accepted}
 use Rattle.trees.specs.Levels.{greatest_of}
 use Rattle.trees.specs.Outcome as every
-use Rattle.h264_block.specs.Entries.{block_refusal, block_with, BinsRead, read_bins, wanted_from, BinsWritten, write_bins}
+use Rattle.h264_block.specs.Entries.{block_refusal, block_with, read_bins, wanted_from, BinsWritten, write_bins}
 use Rattle.h264_block.specs.Writable.{ReadsAs}
 use Rattle.h264_block.proofs.Exact.{block_exactly, write_read, read_write}
 use Rattle.h264_writer.specs.declared.entries.Written.{Written}

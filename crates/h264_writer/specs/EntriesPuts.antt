@@ -1,10 +1,10 @@
 -- The entry point: what its answers say, and its ways out. Assumes nothing.
-use Rattle.std.specs.Prelude.{ℕ, zero, suc, ◌+◌, ◌≤◌, ◌<◌, ◌≡◌, refl, true, false, List, [], ◌++◌, ℤ, length, drop}
-use Rattle.std.proofs.Common.{sym, ap, subst, ◌∙◌, arith, length-take-le}
-use Rattle.bins.specs.Syn.{done, Written, write}
+use Rattle.std.specs.Prelude.{ℕ, zero, suc, ◌≤◌, ◌<◌, ◌≡◌, refl, true, false, List, [], ◌++◌, ℤ, length, drop}
+use Rattle.std.proofs.Common.{sym, ap, subst, ◌∙◌, length-take-le}
+use Rattle.bins.specs.Syn.{Written, write}
 use Rattle.cabac.specs.Numbers.{Answer, accepted, refused}
 use Rattle.pen.specs.declared.room.Pen.{Pen}
-use Rattle.pen.specs.Sheet.{Sheet, sheet, entered_all, Wrote}
+use Rattle.pen.specs.Sheet.{Sheet, sheet, entered_all}
 use Rattle.pen.specs.RoomPuts.{pen_at, counted_same, counted_long, counted_short, written_all}
 use Rattle.h264_block.specs.Block.{block}
 use Rattle.h264_block.specs.Refusal.{write_refusal}

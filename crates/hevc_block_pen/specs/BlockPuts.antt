@@ -1,8 +1,8 @@
 -- The whole block as its code puts it: the head, then the sub-blocks. Assumes nothing.
-use Rattle.std.specs.Prelude.{ℕ, zero, suc, ◌+◌, ◌-◌, ◌*◌, ◌/◌, ◌%◌, ◌^◌, ◌≤◌, ◌<◌, ◌≡◌, Bool, true, false, not, ◌&&◌, ◌||◌, ℤ, pos, nat_abs, length, get_or}
+use Rattle.std.specs.Prelude.{ℕ, suc, ◌-◌, ◌^◌, ◌≡◌, Bool, true, false, not, ◌&&◌, ℤ, pos}
 use Rattle.std.proofs.Math.Path.{refl, subst}
-use Rattle.std.proofs.Common.{sym, ap, ◌∙◌, arith}
-use mathlib.Core.List.{List, [], ◌∷◌}
+use Rattle.std.proofs.Common.{arith}
+use mathlib.Core.List.{List}
 use Rattle.std.proofs.Math.ListN.{replicate}
 use Rattle.bins.specs.Syn.{done, ◌>>=◌}
 use Rattle.trees.specs.LevelLaws.{near_all}
@@ -10,7 +10,6 @@ use Rattle.trees.specs.ReaderLaws.{or_false}
 use Rattle.hevc_residual.specs.declared.params.Params.{Params}
 use Rattle.hevc_residual.specs.declared.params.Rdpcm.{Rdpcm}
 use Rattle.hevc_residual.specs.Wanted.{Wanted, S, area, outer_of, inner_of}
-use Rattle.hevc_residual.specs.Head as syntax
 use Rattle.hevc_residual.specs.Head.{head_s, skip_coded, rdpcm_coded, rdpcm_flag}
 use Rattle.hevc_residual.specs.Remainder.{log2_transform_range}
 use Rattle.hevc_residual.specs.Refusal.{not_coded, write_refusal}

@@ -1,12 +1,12 @@
 -- The significance loop as its code puts it: what is left to write. Assumes nothing.
-use Rattle.std.specs.Prelude.{ℕ, zero, suc, ◌+◌, ◌-◌, ◌≤◌, ◌<◌, ◌≡◌, refl, Bool, true, false, cond, ◌&&◌, List, [], ◌∷◌, ◌++◌, ℤ, pos, nat_abs, ltb, eqb, length, get_or}
+use Rattle.std.specs.Prelude.{ℕ, suc, ◌+◌, ◌-◌, ◌≤◌, ◌<◌, ◌≡◌, refl, Bool, true, false, cond, ◌&&◌, List, [], ◌∷◌, ◌++◌, ℤ, nat_abs, ltb, eqb, length}
 use Rattle.std.proofs.Common.{sym, ◌∙◌}
 use Rattle.std.proofs.Math.Path.{ap, subst}
 use native.Mathlib.Omega.{arith}
 use Rattle.bins.specs.Engine.{bit_no}
 use Rattle.bins.specs.Tags.{context_count, tag}
 use Rattle.bins.specs.Syn.{done, bin, ◌>>=◌}
-use Rattle.hevc_residual.specs.Wanted.{Wanted, S, is_sig, none}
+use Rattle.hevc_residual.specs.Wanted.{Wanted, is_sig, none}
 use Rattle.hevc_residual.specs.SubBlock.{places_s}
 use Rattle.hevc_places.specs.declared.places.Places.{Places}
 use Rattle.hevc_places.specs.Packing.{Packs, unpack, unpacked}

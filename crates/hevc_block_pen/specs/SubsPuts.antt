@@ -1,19 +1,18 @@
 -- Sub-blocks as their code puts them: one, call after call, and the loop from the last one down. Assumes nothing.
-use Prim.Native.Nat.{ℕ, zero, suc, ◌+◌, ◌-◌, ◌*◌, ◌/◌, ◌%◌, ◌^◌, ◌≤◌, ◌<◌}
-use Rattle.std.specs.Prelude.{◌≡◌, Bool, not, ◌&&◌, ◌||◌, cond, ℤ, pos, nat_abs, length, get_or, set, ltb, eqb}
+use Prim.Native.Nat.{ℕ, suc, ◌+◌, ◌-◌, ◌*◌, ◌^◌, ◌≤◌, ◌<◌}
+use Rattle.std.specs.Prelude.{◌≡◌, Bool, not, ◌&&◌, cond, ℤ, nat_abs, length, get_or, set, ltb, eqb}
 use Rattle.std.proofs.Math.Path.{refl, ap, ap₂, subst}
-use Rattle.std.proofs.Common.{sym, ◌∙◌, eqb-true}
+use Rattle.std.proofs.Common.{sym, ◌∙◌}
 use Rattle.std.proofs.Math.Bool.{true, false}
-use mathlib.Core.List.{List, [], ◌∷◌}
+use mathlib.Core.List.{List}
 use native.Mathlib.Omega.{arith}
-use Rattle.std.proofs.lemmas.Bool.{eqb-false}
 use Rattle.bins.specs.Tags.{tag}
 use Rattle.bins.specs.Syn.{done, bin, ◌>>=◌}
 use Rattle.hevc_residual.specs.declared.params.Params.{Params}
 use Rattle.hevc_residual.specs.declared.params.Rdpcm.TheVariants as of_rdpcm
 use Rattle.hevc_residual.specs.Scan.{Spot, spot}
 use Rattle.hevc_residual.specs.Remainder.{log2_transform_range}
-use Rattle.hevc_residual.specs.Wanted.{Wanted, S, width, outer_of, inner_of, wanted_in, spot_in, level_at, cell_of, down_from, none, sig_places}
+use Rattle.hevc_residual.specs.Wanted.{Wanted, S, width, outer_of, inner_of, wanted_in, spot_in, cell_of, none, sig_places}
 use Rattle.hevc_residual.specs.Head.{skip_or_bypass}
 use Rattle.hevc_residual.specs.SubBlock.{Acc, places_s}
 use Rattle.hevc_residual.specs.Residual.{marked, ctx_set_of, filled_s, sub_block_s, sub_blocks_s}
@@ -21,8 +20,7 @@ use Rattle.hevc_head_rules.specs.declared.head.Head.{Head}
 use Rattle.hevc_head_rules.specs.HeadOf.{head_of}
 use Rattle.hevc_places.specs.declared.places.Places.{Places}
 use Rattle.hevc_rules.specs.declared.coeffs.Carry.{Carry}
-use Rattle.hevc_places.specs.Packing.{Packs, unpack, unpacked}
-use Rattle.hevc_places.specs.PackingLaws.{unpack_none}
+use Rattle.hevc_places.specs.Packing.{unpack, unpacked}
 use Rattle.hevc_places.specs.declared.places.SigNumbers.{SigNumbers}
 use Rattle.hevc_places.specs.PlacesAgree.{sig_number, number_at}
 use Rattle.hevc_places.specs.PlacesLaws.{places_same}
@@ -31,13 +29,12 @@ use Rattle.hevc_residual.specs.Limits.{Statistics}
 use Rattle.hevc_rules.specs.SubsAgree.{near, flag_number, flag_or, Met, begun, last_of, last_in_of}
 use Rattle.hevc_residual.specs.Residual.{ctx_set_by}
 use Rattle.hevc_rules.specs.SmallLaws.{flag_number_is}
-use Rattle.hevc_rules.specs.SubsLaws.{flag_s, flag_no, places_t, ctx_of, lv, wanted, rest, sub_code, places_is}
+use Rattle.hevc_rules.specs.SubsLaws.{flag_s, flag_no, places_t, ctx_of, wanted, rest, sub_code, places_is}
 use Rattle.pen.specs.Sheet.{Sheet, entered, Wrote}
 use Rattle.pen.specs.SheetLaws.{wrote_none, wrote_on, wrote_bin, wrote_call}
-use Rattle.hevc_wanted.specs.Shown.{Shows, is_level}
-use Rattle.hevc_wanted.specs.ShownLaws.{places_shown}
+use Rattle.hevc_wanted.specs.Shown.{Shows}
 use Rattle.hevc_levels_pen.specs.LevelsPuts.{AllInRange, InRange}
-use Rattle.hevc_coeffs_pen.specs.CoeffsPuts.{AccIs, Lands, GoesCoeffs}
+use Rattle.hevc_coeffs_pen.specs.CoeffsPuts.{GoesCoeffs}
 
 -- ---- the accumulator: what the code has, with any block and column
 abbrev pub acc_at : Carry → ℕ → List Bool → List ℤ → List ℕ → Acc

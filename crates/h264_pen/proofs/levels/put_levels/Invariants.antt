@@ -1,6 +1,5 @@
 use Rattle.h264_pen.specs.LevelPuts.{Leveling}
 use Rattle.pen.specs.Sheet.{sheet}
-use Prim.Native.Nat.{◌-◌}
 use Rattle.h264_pen.proofs.levels.put_levels.Given as goal
 
 -- `put_levels` meets its contract. Assumes nothing.

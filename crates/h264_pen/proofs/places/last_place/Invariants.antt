@@ -1,5 +1,4 @@
 use Rattle.h264_pen.specs.PlacePuts.{Seeking}
-use Prim.Native.Nat.{◌-◌}
 use Rattle.h264_pen.proofs.places.last_place.Given as goal
 
 -- `last_place` meets its contract. Assumes nothing.

@@ -8,7 +8,6 @@ use lib.ListN.{get_or}
 use lib.IntN.{pos, nat_abs}
 use lib.Dec.{ltb}
 use mathlib.Core.Path.{◌≡◌, ap, ◌∙◌}
-use Prim.Native.Nat.{◌-◌}
 use native.Mathlib.Omega.{arith}
 use Rattle.h264_pen.proofs.places.put_places.Goals as goal
 

@@ -11,19 +11,19 @@ returns-then-block-lt16 c =
     promised a.block.now a.room.now (listed.Refused 4) _ (refused_first a.block.now a.room.now c.if-block-lt16.true)
 
 pub slice_bounds-levels-end : goal.slice_bounds-levels-end
-slice_bounds-levels-end c = sym (length-take-le 16 c.before.args.block.now c.if1.false)
+slice_bounds-levels-end c = sym (length-take-le 16 c.args.block.now c.if-block-lt16.false)
 
 pub returns-then-n-ne0 : goal.returns-then-n-ne0
 returns-then-n-ne0 c =
     let a = c.args in
-    promised a.block.now a.room.now (listed.Refused c.write_refusal-n.result) _ (refused_second a.block.now a.room.now c.if1.false c.write_refusal-n.result c.write_refusal-n.ensures c.if-n-ne0.true)
+    promised a.block.now a.room.now (listed.Refused c.write_refusal-n.result) _ (refused_second a.block.now a.room.now c.if-block-lt16.false c.write_refusal-n.result c.write_refusal-n.ensures c.if-n-ne0.true)
 
 pub put_block-counted-requires : goal.put_block-counted-requires
 put_block-counted-requires c =
     let a = c.args in
     let l = a.block.now in
     let room = a.room.now in
-    let long = c.if1.false in
+    let long = c.if-block-lt16.false in
     let ok = sym c.write_refusal-n.ensures ∙ c.if-n-ne0.false in
     writable l room long ok
 
@@ -32,7 +32,7 @@ returns-then-counted c =
     let a = c.args in
     let l = a.block.now in
     let room = a.room.now in
-    let long = c.if1.false in
+    let long = c.if-block-lt16.false in
     let ok = sym c.write_refusal-n.ensures ∙ c.if-n-ne0.false in
     promised l room (listed.Refused 12) _ (no_room l room long ok _ c.put_block-counted.result c.put_block-counted.ensures c.if-counted.true)
 
@@ -41,7 +41,7 @@ put_block-written-requires c =
     let a = c.args in
     let l = a.block.now in
     let room = a.room.now in
-    let long = c.if1.false in
+    let long = c.if-block-lt16.false in
     let ok = sym c.write_refusal-n.ensures ∙ c.if-n-ne0.false in
     writable l room long ok
 
@@ -50,6 +50,6 @@ returns c =
     let a = c.args in
     let l = a.block.now in
     let room = a.room.now in
-    let long = c.if1.false in
+    let long = c.if-block-lt16.false in
     let ok = sym c.write_refusal-n.ensures ∙ c.if-n-ne0.false in
     promised l room (listed.List c.put_block-written.result.at) _ (all_written l room long ok _ c.put_block-counted.result c.put_block-counted.ensures c.if-counted.false _ c.put_block-written.result c.put_block-written.ensures)

@@ -7,7 +7,6 @@ use lib.ListN.{get_or}
 use lib.IntN.{pos, nat_abs}
 use mathlib.Core.Bool.{not}
 use mathlib.Core.Path.{ap, ◌∙◌}
-use Prim.Native.Nat.{◌-◌}
 use native.Mathlib.Omega.{arith}
 use Rattle.h264_writer.proofs.refusal.too_far.Goals as goal
 

@@ -1,4 +1,3 @@
-use Prim.Native.Nat.{◌-◌}
 use Rattle.hevc_places.specs.PlacesAgree.{number_at}
 use Rattle.pen.specs.Sheet.{sheet}
 use Rattle.hevc_block_pen.specs.PlacesPuts.{Putting}

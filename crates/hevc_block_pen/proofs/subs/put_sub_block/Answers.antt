@@ -1,34 +1,18 @@
 use native.Mathlib.Omega.{arith}
-use mathlib.Core.Path.{◌≡◌, sym, ◌∙◌}
-use Prim.Native.Nat.{ℕ, ◌<◌}
-use borrow.Author.Tests.{not-true, not-false}
+use mathlib.Core.Path.{sym, ◌∙◌}
 use Rattle.hevc_scans.specs.ScanLaws.{outer_small}
 use Rattle.hevc_residual.specs.Scan.{spot}
-use Rattle.hevc_places.specs.PlacesAgree.{sig_number, number_at}
 use Rattle.hevc_rules.specs.SubCode.{row_few, column_in, row_in, grid_few, flags_square, grid_in, near_few, marked_length, places_few, asked_held, held_small}
 use Rattle.hevc_block_pen.specs.SubsPuts.{shown_in_range, sub_none, sub_empty, sub_levels}
 use Rattle.hevc_block_pen.proofs.subs.put_sub_block.Goals as goal
 
--- the contexts held are those of the syntax at every place that is asked for
-held : (m : goal.After-met) → (k : ℕ) → k < m.places_below.result
-    → number_at m.sig_numbers.result k
-    ≡ sig_number m.args.p m.is_single.result
-    m.neighbours_of-neighbours.result m.args.xs
-    m.args.ys k
-held m =
-    let a = m.args in
-    asked_held a.p a.i a.last a.lastin m.places_below.result m.requires.9 m.requires.11 m.places_below.ensures m.is_single.result
-    m.neighbours_of-neighbours.result a.xs a.ys m.sig_numbers.result
-    m.sig_numbers.ensures
-
 pub neighbours_of-neighbours-requires : goal.neighbours_of-neighbours-requires
 neighbours_of-neighbours-requires c =
-    let b = c.before in
-    let a = b.args in (
-      flags_square a.p a.xs a.ys a.w b.requires.2 b.requires.1 a.coded.now b.requires.3,
-      row_few a.p a.xs a.ys a.w b.requires.2 b.requires.1,
-      column_in a.p a.xs a.ys a.w b.requires.2 b.requires.1,
-      row_in a.p a.xs a.ys a.w b.requires.2 b.requires.1,
+    let a = c.args in (
+      flags_square a.p a.xs a.ys a.w c.requires.2 c.requires.1 a.coded.now c.requires.3,
+      row_few a.p a.xs a.ys a.w c.requires.2 c.requires.1,
+      column_in a.p a.xs a.ys a.w c.requires.2 c.requires.1,
+      row_in a.p a.xs a.ys a.w c.requires.2 c.requires.1,
     )
 
 pub returns-then-not-coded_now : goal.returns-then-not-coded_now
@@ -90,7 +74,9 @@ shape_of-room-then-s-eq0 c = c.room-2-1.given ∙ c.room-1.given
 
 pub returns-then-s-eq0 : goal.returns-then-s-eq0
 returns-then-s-eq0 c =
-    let a = c.args in (
+    let a = c.args in
+    let held = asked_held a.p a.i a.last a.lastin c.places_below.result c.requires.9 c.requires.11 c.places_below.ensures c.is_single.result
+    c.neighbours_of-neighbours.result a.xs a.ys c.sig_numbers.result c.sig_numbers.ensures in (
       marked_length a.coded.now _ _ c.requires.3,
       c.requires.6,
       c.requires.7,
@@ -99,7 +85,7 @@ returns-then-s-eq0 c =
           c.is_middle-middle.result c.is_middle-middle.ensures c.flag_number-number.result c.flag_number-number.ensures.0
           _ _ c.put_coded_flag-y.ensures (sym c.coded_now.ensures ∙ c.if-not-coded_now.false)
           c.is_single.result c.is_single.ensures c.places_below.result c.places_below.ensures c.met.result c.met.ensures
-          c.sig_numbers.result (held c) c.put_places-r.result.places _ c.levels_of-levels.result c.levels_of-levels.ensures c.put_places-r.ensures.1 c.if-s-eq0.true,
+          c.sig_numbers.result held c.put_places-r.result.places _ c.levels_of-levels.result c.levels_of-levels.ensures c.put_places-r.ensures.1 c.if-s-eq0.true,
     )
 
 pub put_coeffs-q-requires : goal.put_coeffs-q-requires
@@ -118,7 +104,9 @@ shape_of-room c = c.room-3-1.given ∙ c.room-2-1.given ∙ c.room-1.given
 
 pub returns : goal.returns
 returns c =
-    let a = c.args in (
+    let a = c.args in
+    let held = asked_held a.p a.i a.last a.lastin c.places_below.result c.requires.9 c.requires.11 c.places_below.ensures c.is_single.result
+    c.neighbours_of-neighbours.result a.xs a.ys c.sig_numbers.result c.sig_numbers.ensures in (
       marked_length a.coded.now _ _ c.requires.3,
       c.put_coeffs-q.ensures.1,
       record { carry = c.put_coeffs-q.ensures.0; column = omega arith },
@@ -127,6 +115,6 @@ returns c =
           c.is_middle-middle.result c.is_middle-middle.ensures c.flag_number-number.result c.flag_number-number.ensures.0
           _ _ c.put_coded_flag-y.ensures (sym c.coded_now.ensures ∙ c.if-not-coded_now.false)
           c.is_single.result c.is_single.ensures c.places_below.result c.places_below.ensures c.met.result c.met.ensures
-          c.sig_numbers.result (held c) c.put_places-r.result.places _ c.levels_of-levels.result c.levels_of-levels.ensures c.put_places-r.ensures.1 (omega (arith, c.if-s-eq0.false))
+          c.sig_numbers.result held c.put_places-r.result.places _ c.levels_of-levels.result c.levels_of-levels.ensures c.put_places-r.ensures.1 (omega (arith, c.if-s-eq0.false))
           c.ctxset_of.result c.ctxset_of.ensures.0 c.put_coeffs-q.result.carry _ _ c.put_coeffs-q.ensures.2,
     )

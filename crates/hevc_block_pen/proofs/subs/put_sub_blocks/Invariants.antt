@@ -1,4 +1,3 @@
-use Prim.Native.Nat.{◌-◌}
 use Rattle.pen.specs.Sheet.{sheet}
 use Rattle.hevc_block_pen.specs.SubsPuts.{Walking}
 use Rattle.hevc_block_pen.proofs.subs.put_sub_blocks.Given as goal

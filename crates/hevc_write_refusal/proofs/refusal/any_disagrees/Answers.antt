@@ -1,4 +1,4 @@
-use Rattle.std.specs.Prelude.{not}
+use borrow.Author.Tests.{not-true}
 use Rattle.std.proofs.Common.{ap}
 use Prim.Native.Nat.{◌-◌}
 use native.Mathlib.Omega.{arith}
@@ -49,4 +49,4 @@ returns c =
     agreeing_ends a.p c.requires.0 a.h a.block.now c.loop-i.i c.loop-i.invariant (omega (arith, c.loop-i-test.false, c.grid-n.ensures.0))
 
 pub returns-then-not-p : goal.returns-then-not-p
-returns-then-not-p c = let a = c.args in λ w g. nothing_hidden a.p w _ _ (ap not c.if-not-p.true)
+returns-then-not-p c = let a = c.args in λ w g. nothing_hidden a.p w _ _ (not-true _ c.if-not-p.true)

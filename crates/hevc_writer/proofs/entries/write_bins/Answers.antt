@@ -1,6 +1,5 @@
 use mathlib.Core.Path.{sym, ap, ◌∙◌}
 use lib.ListN.{length, take}
-use borrow.Author.Tests.{not-true, not-false}
 use Rattle.hevc_residual.specs.declared.answers.Written.TheVariants as listed
 use Rattle.hevc_writer.specs.Demand3.{promised}
 use Rattle.hevc_writer.specs.EntriesPuts.{refused_first, accepts, front_long, statistics, refused_second, no_room, all_written}
@@ -22,13 +21,13 @@ area_of-requires c =
 pub slice_bounds-levels-end : goal.slice_bounds-levels-end
 slice_bounds-levels-end c =
     let a = c.args in
-    let pass = sym c.if1.false ∙ c.bins-checks.ensures in
+    let pass = sym c.if-a-ne0.false ∙ c.bins_checks-a.ensures in
     c.area_of.ensures ∙ sym (ap (λ k. length (take k a.block.now)) c.area_of.ensures ∙ front_long a.p a.stats.now a.block.now a.skip a.rdpcm a.room.now pass)
 
 pub write_refusal-b-requires : goal.write_refusal-b-requires
 write_refusal-b-requires c =
     let a = c.args in
-    let pass = sym c.if1.false ∙ c.bins-checks.ensures in
+    let pass = sym c.if-a-ne0.false ∙ c.bins_checks-a.ensures in
     let el = ap (λ k. take k a.block.now) c.area_of.ensures in (
       accepts a.p a.stats.now a.block.now a.skip a.rdpcm a.room.now pass,
       ap length el ∙ front_long a.p a.stats.now a.block.now a.skip a.rdpcm a.room.now pass,
@@ -51,7 +50,7 @@ has_room-requires c =
       accepts a.p a.stats.now a.block.now a.skip a.rdpcm a.room.now pass,
       ap length el ∙ front_long a.p a.stats.now a.block.now a.skip a.rdpcm a.room.now pass,
       statistics a.p a.stats.now a.block.now a.skip a.rdpcm a.room.now pass,
-      sym c.write-refusal.ensures ∙ c.if2.false,
+      sym c.write_refusal-b.ensures ∙ c.if-b-ne0.false,
     )
 
 pub returns-then-not-has_room : goal.returns-then-not-has_room
