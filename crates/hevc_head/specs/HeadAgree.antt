@@ -6,7 +6,6 @@ use Rattle.bins.specs.Laws.{RefusedBy}
 use Rattle.hevc_residual.specs.Head as syntax
 use Rattle.hevc_head.specs.declared.head.Headed.{Headed}
 use Rattle.hevc_head.specs.declared.head.Headed.TheVariants as headed
-use Rattle.hevc_head_rules.specs.declared.head.Head.{Head}
 use Rattle.hevc_head_rules.specs.HeadOf.{head_of}
 
 abbrev pub SaysHead : Headed → List ℕ → Out Cursor syntax.Head → Type 0

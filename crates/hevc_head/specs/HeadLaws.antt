@@ -10,7 +10,7 @@ use Rattle.bins.specs.declared.state.Refusal.{Refusal}
 use Rattle.bins.specs.declared.state.Step.{Step}
 use Rattle.bins.specs.declared.state.Step.TheVariants as step
 use Rattle.bins.specs.Engine.{bit_no}
-use Rattle.bins.specs.Syn.{Syn, done, bypass, ◌>>=◌, Source, Out, run}
+use Rattle.bins.specs.Syn.{Syn, done, ◌>>=◌, Source, Out, run}
 use Rattle.bins.specs.Readers.{flag_if, bits_s, prefix_s}
 use Rattle.bins.specs.Sources.{Cursor, cursor, by_code, bits_from, Readable, step_of_bits, stopped, refused_at, refusal_of}
 use Rattle.bins.specs.Laws.{RefusedBy, then_run, run_bind, bind_ok, bind_no, map_out}

@@ -1,5 +1,5 @@
 -- The places that a reading clears, and each way out of it. Assumes nothing.
-use Rattle.std.specs.Prelude.{ℕ, ◌+◌, ◌≡◌, refl, Bool, List, ◌++◌, ℤ, pos, length, take, drop, replicate}
+use Rattle.std.specs.Prelude.{ℕ, ◌≡◌, refl, Bool, List, ◌++◌, ℤ, pos, length, take, drop, replicate}
 use Rattle.std.proofs.Common.{sym, ap, subst, ◌∙◌}
 use Rattle.std.proofs.lemmas.List.{length-replicate}
 use Rattle.std.proofs.Math.Seq.{take-append_seam, drop-append_seam}

@@ -1,6 +1,6 @@
 -- The scale's two readers: what they are handed looked at, and the tree read, as their code does it. Assumes nothing.
 use Prim.Native.Nat.{ℕ, zero, suc, ◌≤◌, ◌<◌}
-use Rattle.std.specs.Prelude.{◌≡◌, refl, Bool, cond, ltb, ℤ, pos}
+use Rattle.std.specs.Prelude.{◌≡◌, refl, Bool, cond, ltb, ℤ}
 use Rattle.std.proofs.Math.Path.{sym, ap, subst}
 use Rattle.std.proofs.Common.{◌∙◌, arith, to_z, of_z, ltb-false, lt-ltb, le-ltb}
 use Rattle.std.proofs.Math.Bool.{true, false}
@@ -14,14 +14,14 @@ use Rattle.bins.specs.declared.state.Interval.{Interval}
 use Rattle.bins.specs.Bits.{ends, past_most}
 use Rattle.bins.specs.Engine.{place}
 use Rattle.bins.specs.Interval.{place_of, opened, settled, Goes}
-use Rattle.bins.specs.Syn.{Out, Reading, run, by_engine, by_list}
-use Rattle.bins.specs.Sources.{Cursor, cursor, by_code, refused_at}
-use Rattle.bins.specs.Laws.{RefusedBy, map_out}
+use Rattle.bins.specs.Syn.{Out, run, by_engine, by_list}
+use Rattle.bins.specs.Sources.{Cursor, cursor, refused_at}
+use Rattle.bins.specs.Laws.{map_out}
 use Rattle.bins.specs.CodeLaws.{Packed}
 use Rattle.bins.specs.EngineRuns.{runs_goes}
 use Rattle.bins.specs.Settled.{seen, run_opened}
 use Rattle.bins.specs.Listed.{left, run_listed}
-use Rattle.cabac.specs.Numbers.{Answer, accepted, refused, ◌or_else◌, payload_refusal, state_refusal, ended_refusal}
+use Rattle.cabac.specs.Numbers.{◌or_else◌, payload_refusal, state_refusal, ended_refusal}
 use Rattle.cabac.specs.NumberLaws.{or_else_first, or_else_rest, or_else_zero, payload_passed, state_fits, state_counts, state_runs}
 use Rattle.hevc_residual.specs.Numbers.{contexts_refusal}
 use Rattle.hevc_elements.specs.Agree.{Reads, from, reads_on}
@@ -31,8 +31,8 @@ use Rattle.hevc_scale_syntax.specs.declared.syntax.Scaled.{Scaled}
 use Rattle.hevc_scale_syntax.specs.declared.syntax.Scaled.TheVariants as scaled
 use Rattle.hevc_scale.specs.declared.entries.Read.TheVariants as read
 use Rattle.hevc_scale.specs.declared.entries.ReadList.TheVariants as readlist
-use Rattle.hevc_cross.specs.Scale.{scale, scale_s}
-use Rattle.hevc_cross.specs.Entries.{component_refusal, PayloadRead, read_by_engine, read_payload_by, read_payload, read_from_list, read_bins_by, read_bins}
+use Rattle.hevc_cross.specs.Scale.{scale_s}
+use Rattle.hevc_cross.specs.Entries.{component_refusal, read_by_engine, read_payload_by, read_payload, read_from_list, read_bins_by, read_bins}
 use Rattle.hevc_cross.specs.ScaleLaws.{scale_any}
 use Rattle.hevc_scale_syntax.specs.Agree.{nothing, SaysScale}
 use Rattle.hevc_scale_syntax.specs.CodeLaws.{scale_stays}

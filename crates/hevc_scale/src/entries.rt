@@ -28,6 +28,7 @@ pub enum ReadList {
 }
 
 // 4: chroma component 0 or 1
+#[tactic(auto, unfolding(hevc_cross::specs::Entries::component_refusal))]
 pub fn component_refusal(component: u32) -> u32
     ensures { result ≡ component_refusal component }
 {

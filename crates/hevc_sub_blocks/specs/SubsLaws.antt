@@ -10,12 +10,12 @@ use Rattle.bins.specs.declared.state.Refusal.{Refusal}
 use Rattle.bins.specs.declared.state.Step.{Step}
 use Rattle.bins.specs.declared.state.Step.TheVariants as step
 use Rattle.bins.specs.Engine.{bit_no}
-use Rattle.bins.specs.Syn.{done, ◌>>=◌, Out, run}
+use Rattle.bins.specs.Syn.{◌>>=◌, Out}
 use Rattle.bins.specs.Sources.{cursor, by_code, stopped}
 use Rattle.bins.specs.Laws.{RefusedBy, bind_ok, bind_no}
 use Rattle.hevc_residual.specs.declared.params.Params.{Params}
 use Rattle.hevc_residual.specs.Scan.{spot}
-use Rattle.hevc_residual.specs.Wanted.{Wanted, S, width, outer_of, inner_of, none}
+use Rattle.hevc_residual.specs.Wanted.{Wanted, S, width, outer_of, inner_of}
 use Rattle.hevc_residual.specs.SubBlock.{Acc}
 use Rattle.hevc_residual.specs.Residual.{marked, ctx_set_of, filled_s, sub_block_s}
 use Rattle.hevc_head_rules.specs.declared.head.Head.{Head}

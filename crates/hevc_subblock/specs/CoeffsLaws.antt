@@ -1,6 +1,6 @@
 -- The levels of a sub-block as their code reads them, call after call. Assumes nothing.
 use Prim.Native.Nat.{ℕ, suc, ◌+◌, ◌-◌, ◌*◌, ◌/◌, ◌%◌, ◌^◌, ◌≤◌, ◌<◌, min}
-use Rattle.std.specs.Prelude.{◌≡◌, refl, true, false, not, ◌&&◌, cond, ℤ, pos, nat_abs, length, get_or, set, eqb}
+use Rattle.std.specs.Prelude.{◌≡◌, true, false, not, ◌&&◌, cond, ℤ, pos, nat_abs, length, get_or, set, eqb}
 use Rattle.std.proofs.Common.{sym, subst, ◌∙◌, arith}
 use Rattle.std.proofs.Math.Path.{ap}
 use Rattle.std.proofs.Math.Bool.{Bool}

@@ -1,10 +1,10 @@
 -- The loop over sub-blocks, from the last one down: what is left to run. Assumes nothing.
-use Rattle.std.specs.Prelude.{ℕ, suc, ◌-◌, ◌*◌, ◌≤◌, ◌≡◌, refl, Bool, List, ℤ, length}
+use Rattle.std.specs.Prelude.{ℕ, suc, ◌*◌, ◌≤◌, ◌≡◌, refl, Bool, List, ℤ, length}
 use Rattle.std.proofs.Common.{sym, subst, ◌∙◌, arith}
 use Rattle.std.proofs.Math.Path.{ap}
 use Rattle.bins.specs.declared.state.Refusal.{Refusal}
 use Rattle.bins.specs.declared.state.Interval.{Interval}
-use Rattle.bins.specs.Syn.{done, ◌>>=◌, run}
+use Rattle.bins.specs.Syn.{◌>>=◌}
 use Rattle.bins.specs.Sources.{cursor, by_code}
 use Rattle.bins.specs.Laws.{RefusedBy, bind_ok, bind_no}
 use Rattle.hevc_residual.specs.declared.params.Params.{Params}
@@ -23,7 +23,6 @@ use Rattle.hevc_residual.specs.Limits.{Statistics}
 use Rattle.hevc_rules.specs.CoeffsAgree.{Carries, acc_of}
 use Rattle.hevc_rules.specs.SubsAgree.{begun, last_of, last_in_of}
 use Rattle.hevc_sub_blocks.specs.SubsAgree.{SaysSub, SaysSubs}
-use Rattle.hevc_rules.specs.WalkLaws.{few}
 
 -- ---- the loop, with n sub-blocks left
 module _ (p : Params) (h : Head) (list : Bool) (l : List ℕ) (x : Interval) (cs : List ℕ) (coded₀ : List Bool) (levels₀ : List ℤ) (stats₀ : List ℕ) where

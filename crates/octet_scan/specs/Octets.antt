@@ -1,5 +1,5 @@
 -- Where an octet stands in a text, and the part between two places.
-use Rattle.std.specs.Prelude.{ℕ, zero, suc, List, [], ◌∷◌, take, drop, cond, ◌==◌}
+use Rattle.std.specs.Prelude.{ℕ, suc, List, [], ◌∷◌, take, drop, cond, ◌==◌}
 
 -- the first place of b; the length where it does not stand
 unfoldable pub index_of : ℕ → List ℕ → ℕ

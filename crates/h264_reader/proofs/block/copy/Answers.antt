@@ -27,9 +27,6 @@ overflow_add-i c = omega (arith, c.loop-i-test.true)
 pub loop-i-smaller : goal.loop-i-smaller
 loop-i-smaller c = omega (arith, c.loop-i-test.true)
 
-pub loop-i-preserved : goal.loop-i-preserved
-loop-i-preserved c = let a = c.args in let h = c.requires in subst (λ z. Copying a.block.now a.levels.now (set c.loop-i.block c.loop-i.i z) (c.loop-i.i + 1)) (sym (to_z-of_z (record { sfits = c.block-1.given }))) (copy_again a.block.now a.levels.now h.0 c.loop-i.block c.loop-i.i c.loop-i.invariant h.1 c.loop-i-test.true _)
-
 pub shape_of-block : goal.shape_of-block
 shape_of-block c = c.loop-i.invariant.long
 

@@ -1,14 +1,10 @@
-use mathlib.Core.Bool.{Bool, false}
-use mathlib.Core.List.{List}
+use mathlib.Core.Bool.{false}
 use lib.ListN.{take, replicate}
 use Rattle.hevc_rules.specs.BlockLaws.{coded_none, coded_room, coded_long}
 use Rattle.hevc_block.specs.BlockLaws.{head_refused, head_reads, head_last, subs_refused, subs_got, headed_number, carried_number}
 use Rattle.hevc_subblock.specs.CarriedKeeps.{keeps_carried}
 use Rattle.hevc_sub_blocks.specs.SmallLaws.{zeros_long}
 use Rattle.hevc_block.proofs.block.read_block.Goals as goal
-
-abbrev coded2 : goal.After-sub_blocks-s → List Bool
-coded2 c = take c.grid-n.result (replicate 64 false)
 
 pub returns-in_default : goal.returns-in_default
 returns-in_default c =
@@ -35,23 +31,25 @@ sub_blocks-s-requires c =
 
 pub returns-in_default-s : goal.returns-in_default-s
 returns-in_default-s c =
-    let a = c.args in (
+    let a = c.args in
+    let coded2 = take c.grid-n.result (replicate 64 false) in (
       c.sub_blocks-s.ensures.0,
       c.sub_blocks-s.ensures.1,
       subs_refused a.p c.requires.2 a.list a.bytes.now a.x a.contexts.now a.stats.now c.read_head-r.result c.read_head-r.new.contexts c.read_head-r.ensures c.in-Got.h c.in-Got.x1 c.in-Got.is
-          (coded2 c) a.block.now (coded_none a.p c.grid-n.result c.grid-n.ensures) c.requires.3 c.sub_blocks-s.result c.sub_blocks-s.new.contexts c.sub_blocks-s.new.coded c.sub_blocks-s.new.block c.sub_blocks-s.new.stats c.sub_blocks-s.ensures.2
+          coded2 a.block.now (coded_none a.p c.grid-n.result c.grid-n.ensures) c.requires.3 c.sub_blocks-s.result c.sub_blocks-s.new.contexts c.sub_blocks-s.new.coded c.sub_blocks-s.new.block c.sub_blocks-s.new.stats c.sub_blocks-s.ensures.2
           c.carried_refusal.result (carried_number c.sub_blocks-s.result _ c.carried_refusal.result c.in_default-s.is c.carried_refusal.ensures),
     )
 
 pub told_of-told-requires : goal.told_of-told-requires
-told_of-told-requires c = (c.requires.2, c.sub-blocks.ensures.0, keeps_carried c.args.p c.sub-blocks.result _ _ _ c.sub-blocks.new.1.1.1.1.1.0 c.sub-blocks.ensures.3 c.in-Got-s.is)
+told_of-told-requires c = (c.requires.2, c.sub_blocks-s.ensures.0, keeps_carried c.args.p c.sub_blocks-s.result _ _ _ c.sub_blocks-s.new.block c.sub_blocks-s.ensures.3 c.in-Got-s.is)
 
 pub returns : goal.returns
 returns c =
-    let a = c.args in (
-      c.sub-blocks.ensures.0,
-      c.sub-blocks.ensures.1,
+    let a = c.args in
+    let coded2 = take c.grid-n.result (replicate 64 false) in (
+      c.sub_blocks-s.ensures.0,
+      c.sub_blocks-s.ensures.1,
       subs_got a.p c.requires.2 a.list a.bytes.now a.x a.contexts.now a.stats.now c.read_head-r.result c.read_head-r.new.contexts c.read_head-r.ensures c.in-Got.h c.in-Got.x1 c.in-Got.is
-          (coded2 c) a.block.now (coded_none a.p c.grid.result c.grid.ensures) c.requires.3 c.sub-blocks.result c.sub-blocks.new.1.1.0 c.sub-blocks.new.1.1.1.1.0 c.sub-blocks.new.1.1.1.1.1.0 c.sub-blocks.new.1.1.1.1.1.1.0 c.sub-blocks.ensures.2
+          coded2 a.block.now (coded_none a.p c.grid-n.result c.grid-n.ensures) c.requires.3 c.sub_blocks-s.result c.sub_blocks-s.new.contexts c.sub_blocks-s.new.coded c.sub_blocks-s.new.block c.sub_blocks-s.new.stats c.sub_blocks-s.ensures.2
           c.requires.4 c.in-Got-s.c c.in-Got-s.k c.in-Got-s.x2 c.in-Got-s.is c.found_of.result c.told_of-told.result.row c.told_of-told.result.greatest c.told_of-told.ensures.0 c.told_of-told.ensures.1 c.found_of.ensures,
     )

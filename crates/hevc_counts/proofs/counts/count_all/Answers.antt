@@ -1,4 +1,3 @@
-use Prim.Native.Nat.{◌-◌}
 use native.Mathlib.Omega.{arith}
 use Rattle.hevc_summary.specs.CodeLaws.{filling_begins, filling_on, filling_ends}
 use Rattle.hevc_counts.proofs.counts.count_all.Goals as goal
@@ -40,3 +39,13 @@ loop-s-preserved c =
     let a = c.args in
     filling_on a.log2 a.levels.now a.counts.now a.sums.now c.subs_of-n.result c.loop-s.counts c.loop-s.sums c.loop-s.s c.loop-s.invariant c.loop-s-test.true c.count_in-t.result.count c.count_in-t.result.sum c.count_in-t.ensures.0 c.count_in-t.ensures.1 c.count_in-t.ensures.2
 
+pub whole_of-requires : goal.whole_of-requires
+whole_of-requires c =
+    let h = c.requires in
+    (h.0, h.1, omega arith, omega arith)
+
+pub returns : goal.returns
+returns c =
+    let a = c.args in
+    let e = filling_ends a.log2 a.levels.now a.counts.now a.sums.now c.subs_of-n.result c.loop-s.counts c.loop-s.sums c.loop-s.s c.loop-s.invariant c.loop-s-test.false in
+    (e.0, e.1, c.whole_of.ensures, e.2, omega arith, omega arith)

@@ -4,7 +4,6 @@ use mir.Syntax.{w32}
 use lib.ListN.{get_or}
 use lib.IntN.{pos, nat_abs}
 use mathlib.Core.Path.{ap, ◌∙◌}
-use Prim.Native.Nat.{◌-◌}
 use native.Mathlib.Omega.{arith}
 use Rattle.hevc_summary.specs.CodeLaws.{counting_begins, counting_on, counting_ends, area_most}
 use Rattle.hevc_counts.proofs.counts.count_in.Goals as goal

@@ -1,6 +1,6 @@
 use mathlib.Core.Path.{subst, sym}
 use lib.ListN.{get_or}
-use Prim.Native.Nat.{◌+◌, ◌-◌, ◌≤◌}
+use Prim.Native.Nat.{◌+◌, ◌≤◌}
 use native.Mathlib.Omega.{arith}
 use Rattle.hevc_summary.specs.CodeLaws.{Making, making_begins, making_on, making_ends, map_fits}
 use Rattle.hevc_counts.proofs.counts.whole_of.Goals as goal

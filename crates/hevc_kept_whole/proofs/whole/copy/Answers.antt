@@ -1,6 +1,7 @@
 use mir.Facts.{to_z-of_z}
-use Prim.Native.Nat.{◌-◌}
-use native.Mathlib.Omega.{arith}
+use mir.Syntax.{w32}
+use mir.Val.{SFits}
+use Rattle.std.proofs.Common.{pos, get_or, arith, rules}
 use Rattle.hevc_summary.specs.CodeLaws.{copy_begins, copy_on, copy_ends}
 use Rattle.hevc_kept_whole.proofs.whole.copy.Goals as goal
 
@@ -26,7 +27,10 @@ pub loop-i-smaller : goal.loop-i-smaller
 loop-i-smaller c = omega (arith, c.loop-i-test.true)
 
 pub loop-i-preserved : goal.loop-i-preserved
-loop-i-preserved c = let a = c.args in copy_on a.levels.now a.from.now a.n c.loop-i.levels c.loop-i.i c.loop-i.invariant c.loop-i-test.true _ (to_z-of_z (record { sfits = c.levels-1.given }))
+loop-i-preserved c =
+    let a = c.args in
+    let f : SFits w32 (get_or a.from.now c.loop-i.i (pos 0)) = search rules in
+    copy_on a.levels.now a.from.now a.n c.loop-i.levels c.loop-i.i c.loop-i.invariant c.loop-i-test.true _ (to_z-of_z f)
 
 pub shape_of-levels : goal.shape_of-levels
 shape_of-levels c = c.loop-i.invariant.long

@@ -1,4 +1,3 @@
-use Prim.Native.Nat.{◌-◌}
 use native.Mathlib.Omega.{arith}
 use Rattle.hevc_summary.specs.CodeLaws.{zero_begins, zero_on, zero_ends}
 use Rattle.hevc_kept_whole.proofs.whole.zero.Goals as goal

@@ -1,11 +1,7 @@
-use mathlib.Core.List.{List, ◌++◌}
-use lib.IntN.{ℤ}
+use mathlib.Core.List.{◌++◌}
 use lib.ListN.{drop}
 use Rattle.hevc_read_into.specs.IntoLaws.{front_zeros, front_room, read_with, cleared_again, into_got, into_refused}
 use Rattle.hevc_read_into.proofs.into.read_into.Goals as goal
-
-abbrev levels2 : goal.After-read_block-r → List ℤ
-levels2 c = c.read_block-r.new.block
 
 pub slice_bounds-read_block-end-2 : goal.slice_bounds-read_block-end-2
 slice_bounds-read_block-end-2 c =
@@ -25,14 +21,16 @@ read_block-r-requires c =
 pub returns-in_default : goal.returns-in_default
 returns-in_default c =
     let a = c.args in
-    let w = read_with a.p c.area_of-n.result c.area_of-n.ensures a.block.now c.clear.new.block c.clear.ensures (levels2 c) in
-    into_refused a.p a.list a.bytes.now a.x a.contexts.now a.stats.now a.block.now c.read_block-r.result c.read_block-r.new.contexts (levels2 c) c.read_block-r.new.stats c.read_block-r.ensures.2 c.read_block-r.ensures.0
+    let levels2 = c.read_block-r.new.block in
+    let w = read_with a.p c.area_of-n.result c.area_of-n.ensures a.block.now c.clear.new.block c.clear.ensures levels2 in
+    into_refused a.p a.list a.bytes.now a.x a.contexts.now a.stats.now a.block.now c.read_block-r.result c.read_block-r.new.contexts levels2 c.read_block-r.new.stats c.read_block-r.ensures.2 c.read_block-r.ensures.0
     _ c.in_default.is c.clear-in_default.new.block
-    (cleared_again a.p c.area_of-n.result c.area_of-n.ensures a.block.now (levels2 c) (levels2 c ++ drop c.area_of-n.result c.clear.new.block) c.clear-in_default.new.block c.read_block-r.ensures.0 w c.clear-in_default.ensures)
+    (cleared_again a.p c.area_of-n.result c.area_of-n.ensures a.block.now levels2 (levels2 ++ drop c.area_of-n.result c.clear.new.block) c.clear-in_default.new.block c.read_block-r.ensures.0 w c.clear-in_default.ensures)
 
 pub returns : goal.returns
 returns c =
     let a = c.args in
-    into_got a.p a.list a.bytes.now a.x a.contexts.now a.stats.now a.block.now c.read_block-r.result c.read_block-r.new.contexts (levels2 c) c.read_block-r.new.stats c.read_block-r.ensures.2 c.read_block-r.ensures.0
-    _ _ c.in-Got.is (levels2 c ++ drop c.area_of-n.result c.clear.new.block)
-    (read_with a.p c.area_of-n.result c.area_of-n.ensures a.block.now c.clear.new.block c.clear.ensures (levels2 c))
+    let levels2 = c.read_block-r.new.block in
+    into_got a.p a.list a.bytes.now a.x a.contexts.now a.stats.now a.block.now c.read_block-r.result c.read_block-r.new.contexts levels2 c.read_block-r.new.stats c.read_block-r.ensures.2 c.read_block-r.ensures.0
+    _ _ c.in-Got.is (levels2 ++ drop c.area_of-n.result c.clear.new.block)
+    (read_with a.p c.area_of-n.result c.area_of-n.ensures a.block.now c.clear.new.block c.clear.ensures levels2)

@@ -1,29 +1,17 @@
 use native.Mathlib.Omega.{arith}
-use Prim.Native.Nat.{ℕ, ◌+◌, ◌*◌, ◌<◌}
-use mathlib.Core.Path.{◌≡◌}
+use Prim.Native.Nat.{◌+◌, ◌*◌}
 use Rattle.hevc_scans.specs.ScanLaws.{outer_small}
-use Rattle.hevc_places.specs.PlacesAgree.{sig_number, number_at}
 use Rattle.hevc_rules.specs.SubCode.{row_few, column_in, row_in, grid_few, flags_square, grid_in, near_few, marked_length, places_few, asked_held, held_small}
 use Rattle.hevc_sub_blocks.specs.SubCode.{flag_refused, flag_none, flag_reads, places_refused, got_packs, got_reads, got_none, got_levels}
 use Rattle.hevc_sub_blocks.proofs.subs.sub_block.Goals as goal
 
--- the contexts held are those of the syntax at every place that is asked for
-held : (e : goal.After-significance-r) → (k : ℕ) → k < e.places_below.result
-    → number_at e.sig_numbers.result k
-    ≡ sig_number e.args.p e.is_single.result e.neighbours_of-neighbours.result e.args.xs e.args.ys k
-held e =
-    let a = e.args in
-    asked_held a.p a.i a.last a.lastin e.places_below.result e.requires.11 e.requires.13 e.places_below.ensures e.is_single.result
-    e.neighbours_of-neighbours.result a.xs a.ys e.sig_numbers.result e.sig_numbers.ensures
-
 pub neighbours_of-neighbours-requires : goal.neighbours_of-neighbours-requires
 neighbours_of-neighbours-requires c =
-    let b = c.before in
-    let a = b.args in (
-      flags_square a.p a.xs a.ys a.w b.requires.4 b.requires.3 a.coded.now b.requires.5,
-      row_few a.p a.xs a.ys a.w b.requires.4 b.requires.3,
-      column_in a.p a.xs a.ys a.w b.requires.4 b.requires.3,
-      row_in a.p a.xs a.ys a.w b.requires.4 b.requires.3,
+    let a = c.args in (
+      flags_square a.p a.xs a.ys a.w c.requires.4 c.requires.3 a.coded.now c.requires.5,
+      row_few a.p a.xs a.ys a.w c.requires.4 c.requires.3,
+      column_in a.p a.xs a.ys a.w c.requires.4 c.requires.3,
+      row_in a.p a.xs a.ys a.w c.requires.4 c.requires.3,
     )
 
 pub returns-in_default : goal.returns-in_default
@@ -52,16 +40,24 @@ returns-then-flag-eq0 c =
     )
 
 pub overflow_mul-coded : goal.overflow_mul-coded
-overflow_mul-coded c = let a = c.args in omega (arith, grid_few a.p a.xs a.ys a.w c.requires.4 c.requires.3)
+overflow_mul-coded c =
+    let a = c.args in
+    omega (arith, grid_few a.p a.xs a.ys a.w c.requires.4 c.requires.3)
 
 pub overflow_add-coded : goal.overflow_add-coded
-overflow_add-coded c = let a = c.args in omega (arith, grid_few a.p a.xs a.ys a.w c.requires.4 c.requires.3)
+overflow_add-coded c =
+    let a = c.args in
+    omega (arith, grid_few a.p a.xs a.ys a.w c.requires.4 c.requires.3)
 
 pub overflow_cast-coded : goal.overflow_cast-coded
-overflow_cast-coded c = let a = c.args in omega (arith, grid_few a.p a.xs a.ys a.w c.requires.4 c.requires.3)
+overflow_cast-coded c =
+    let a = c.args in
+    omega (arith, grid_few a.p a.xs a.ys a.w c.requires.4 c.requires.3)
 
 pub bounds-coded-ys : goal.bounds-coded-ys
-bounds-coded-ys c = let a = c.args in grid_in a.p a.xs a.ys a.w c.requires.4 c.requires.3 a.coded.now c.requires.5
+bounds-coded-ys c =
+    let a = c.args in
+    grid_in a.p a.xs a.ys a.w c.requires.4 c.requires.3 a.coded.now c.requires.5
 
 pub sig_numbers-requires : goal.sig_numbers-requires
 sig_numbers-requires c =
@@ -93,18 +89,20 @@ significance-r-requires c =
 pub returns-in_default-r : goal.returns-in_default-r
 returns-in_default-r c =
     let a = c.args in
+    let held = asked_held a.p a.i a.last a.lastin c.places_below.result c.requires.11 c.requires.13 c.places_below.ensures c.is_single.result c.neighbours_of-neighbours.result a.xs a.ys c.sig_numbers.result c.sig_numbers.ensures in
     let o = c.if-flag-eq0.false in (
       marked_length a.coded.now (a.ys * a.w + a.xs) _ c.requires.5,
       c.requires.6,
       c.requires.8,
       places_refused a.p a.h a.last a.lastin a.i a.xs a.ys c.requires.10 a.list a.bytes.now a.c a.coded.now a.block.now a.stats.now a.x a.contexts.now a.w c.requires.3
-          c.neighbours_of-neighbours.result c.neighbours_of-neighbours.ensures c.is_middle-middle.result c.is_middle-middle.ensures c.flag_number.result c.flag_number.ensures.0 c.coded_flag-f.result c.coded_flag-f.new.contexts c.coded_flag-f.ensures c.in-Bin.flag c.in-Bin.x1 c.in-Bin.is o c.is_single.result c.is_single.ensures c.places_below.result c.places_below.ensures c.met.result c.met.ensures c.sig_numbers.result (held c) c.significance-r.result c.significance-r.new.contexts c.significance-r.ensures _ _ c.in_default-r.is c.placed_refusal.ensures,
+          c.neighbours_of-neighbours.result c.neighbours_of-neighbours.ensures c.is_middle-middle.result c.is_middle-middle.ensures c.flag_number.result c.flag_number.ensures.0 c.coded_flag-f.result c.coded_flag-f.new.contexts c.coded_flag-f.ensures c.in-Bin.flag c.in-Bin.x1 c.in-Bin.is o c.is_single.result c.is_single.ensures c.places_below.result c.places_below.ensures c.met.result c.met.ensures c.sig_numbers.result held c.significance-r.result c.significance-r.new.contexts c.significance-r.ensures _ _ c.in_default-r.is c.placed_refusal.ensures,
       tt,
     )
 
 pub returns-then-s-eq0 : goal.returns-then-s-eq0
 returns-then-s-eq0 c =
     let a = c.args in
+    let held = asked_held a.p a.i a.last a.lastin c.places_below.result c.requires.11 c.requires.13 c.places_below.ensures c.is_single.result c.neighbours_of-neighbours.result a.xs a.ys c.sig_numbers.result c.sig_numbers.ensures in
     let o = c.if-flag-eq0.false in (
       marked_length a.coded.now (a.ys * a.w + a.xs) _ c.requires.5,
       c.requires.6,
@@ -112,7 +110,7 @@ returns-then-s-eq0 c =
       (
         c.requires.9,
         got_none a.p a.h a.last a.lastin a.i a.xs a.ys c.requires.10 a.list a.bytes.now a.c a.coded.now a.block.now a.stats.now a.x a.contexts.now a.w c.requires.3
-            c.neighbours_of-neighbours.result c.neighbours_of-neighbours.ensures c.is_middle-middle.result c.is_middle-middle.ensures c.flag_number.result c.flag_number.ensures.0 c.coded_flag-f.result c.coded_flag-f.new.contexts c.coded_flag-f.ensures c.in-Bin.flag c.in-Bin.x1 c.in-Bin.is o c.is_single.result c.is_single.ensures c.places_below.result c.places_below.ensures c.met.result c.met.ensures c.sig_numbers.result (held c) c.significance-r.result c.significance-r.new.contexts c.significance-r.ensures _ _ c.in-Got.is c.if-s-eq0.true,
+            c.neighbours_of-neighbours.result c.neighbours_of-neighbours.ensures c.is_middle-middle.result c.is_middle-middle.ensures c.flag_number.result c.flag_number.ensures.0 c.coded_flag-f.result c.coded_flag-f.new.contexts c.coded_flag-f.ensures c.in-Bin.flag c.in-Bin.x1 c.in-Bin.is o c.is_single.result c.is_single.ensures c.places_below.result c.places_below.ensures c.met.result c.met.ensures c.sig_numbers.result held c.significance-r.result c.significance-r.new.contexts c.significance-r.ensures _ _ c.in-Got.is c.if-s-eq0.true,
       ),
       c.requires.14,
     )
@@ -120,10 +118,11 @@ returns-then-s-eq0 c =
 pub coeffs-requires : goal.coeffs-requires
 coeffs-requires c =
     let a = c.args in
+    let held = asked_held a.p a.i a.last a.lastin c.places_below.result c.requires.11 c.requires.13 c.places_below.ensures c.is_single.result c.neighbours_of-neighbours.result a.xs a.ys c.sig_numbers.result c.sig_numbers.ensures in
     let o = c.if-flag-eq0.false in
     let z = c.if-s-eq0.false in (
       got_reads a.p a.h a.last a.lastin a.i a.xs a.ys c.requires.10 a.list a.bytes.now a.c a.coded.now a.block.now a.stats.now a.x a.contexts.now a.w c.requires.3
-          c.neighbours_of-neighbours.result c.neighbours_of-neighbours.ensures c.is_middle-middle.result c.is_middle-middle.ensures c.flag_number.result c.flag_number.ensures.0 c.coded_flag-f.result c.coded_flag-f.new.contexts c.coded_flag-f.ensures c.in-Bin.flag c.in-Bin.x1 c.in-Bin.is o c.is_single.result c.is_single.ensures c.places_below.result c.places_below.ensures c.met.result c.met.ensures c.sig_numbers.result (held c) c.significance-r.result c.significance-r.new.contexts c.significance-r.ensures _ _ c.in-Got.is
+          c.neighbours_of-neighbours.result c.neighbours_of-neighbours.ensures c.is_middle-middle.result c.is_middle-middle.ensures c.flag_number.result c.flag_number.ensures.0 c.coded_flag-f.result c.coded_flag-f.new.contexts c.coded_flag-f.ensures c.in-Bin.flag c.in-Bin.x1 c.in-Bin.is o c.is_single.result c.is_single.ensures c.places_below.result c.places_below.ensures c.met.result c.met.ensures c.sig_numbers.result held c.significance-r.result c.significance-r.new.contexts c.significance-r.ensures _ _ c.in-Got.is
           (flag_reads a.p a.h a.last a.lastin a.i a.xs a.ys c.requires.10 a.list a.bytes.now a.c a.coded.now a.block.now a.stats.now a.x a.contexts.now a.w c.requires.3
           c.neighbours_of-neighbours.result c.neighbours_of-neighbours.ensures c.is_middle-middle.result c.is_middle-middle.ensures c.flag_number.result c.flag_number.ensures.0 c.coded_flag-f.result c.coded_flag-f.new.contexts c.coded_flag-f.ensures _ _ c.in-Bin.is c.requires.0),
       c.requires.1,
@@ -134,7 +133,7 @@ coeffs-requires c =
       c.requires.8,
       c.ctxset_of.ensures.1,
       got_packs a.p a.h a.last a.lastin a.i a.xs a.ys c.requires.10 a.list a.bytes.now a.c a.coded.now a.block.now a.stats.now a.x a.contexts.now a.w c.requires.3
-          c.neighbours_of-neighbours.result c.neighbours_of-neighbours.ensures c.is_middle-middle.result c.is_middle-middle.ensures c.flag_number.result c.flag_number.ensures.0 c.coded_flag-f.result c.coded_flag-f.new.contexts c.coded_flag-f.ensures c.in-Bin.flag c.in-Bin.x1 c.in-Bin.is o c.is_single.result c.is_single.ensures c.places_below.result c.places_below.ensures c.met.result c.met.ensures c.sig_numbers.result (held c) c.significance-r.result c.significance-r.new.contexts c.significance-r.ensures _ _ c.in-Got.is,
+          c.neighbours_of-neighbours.result c.neighbours_of-neighbours.ensures c.is_middle-middle.result c.is_middle-middle.ensures c.flag_number.result c.flag_number.ensures.0 c.coded_flag-f.result c.coded_flag-f.new.contexts c.coded_flag-f.ensures c.in-Bin.flag c.in-Bin.x1 c.in-Bin.is o c.is_single.result c.is_single.ensures c.places_below.result c.places_below.ensures c.met.result c.met.ensures c.sig_numbers.result held c.significance-r.result c.significance-r.new.contexts c.significance-r.ensures _ _ c.in-Got.is,
       omega (arith, z),
       c.requires.9,
       c.requires.14,
@@ -143,13 +142,14 @@ coeffs-requires c =
 pub returns : goal.returns
 returns c =
     let a = c.args in
+    let held = asked_held a.p a.i a.last a.lastin c.places_below.result c.requires.11 c.requires.13 c.places_below.ensures c.is_single.result c.neighbours_of-neighbours.result a.xs a.ys c.sig_numbers.result c.sig_numbers.ensures in
     let o = c.if-flag-eq0.false in
     let z = c.if-s-eq0.false in (
       marked_length a.coded.now (a.ys * a.w + a.xs) _ c.requires.5,
       c.coeffs.ensures.0,
       c.coeffs.ensures.1,
       got_levels a.p a.h a.last a.lastin a.i a.xs a.ys c.requires.10 a.list a.bytes.now a.c a.coded.now a.block.now a.stats.now a.x a.contexts.now a.w c.requires.3
-          c.neighbours_of-neighbours.result c.neighbours_of-neighbours.ensures c.is_middle-middle.result c.is_middle-middle.ensures c.flag_number.result c.flag_number.ensures.0 c.coded_flag-f.result c.coded_flag-f.new.contexts c.coded_flag-f.ensures c.in-Bin.flag c.in-Bin.x1 c.in-Bin.is o c.is_single.result c.is_single.ensures c.places_below.result c.places_below.ensures c.met.result c.met.ensures c.sig_numbers.result (held c) c.significance-r.result c.significance-r.new.contexts c.significance-r.ensures _ _ c.in-Got.is (omega (arith, z)) c.ctxset_of.result c.ctxset_of.ensures.0 c.coeffs.result
+          c.neighbours_of-neighbours.result c.neighbours_of-neighbours.ensures c.is_middle-middle.result c.is_middle-middle.ensures c.flag_number.result c.flag_number.ensures.0 c.coded_flag-f.result c.coded_flag-f.new.contexts c.coded_flag-f.ensures c.in-Bin.flag c.in-Bin.x1 c.in-Bin.is o c.is_single.result c.is_single.ensures c.places_below.result c.places_below.ensures c.met.result c.met.ensures c.sig_numbers.result held c.significance-r.result c.significance-r.new.contexts c.significance-r.ensures _ _ c.in-Got.is (omega (arith, z)) c.ctxset_of.result c.ctxset_of.ensures.0 c.coeffs.result
           c.coeffs.new.contexts c.coeffs.new.block c.coeffs.new.stats c.coeffs.ensures.2,
       c.coeffs.ensures.3,
     )

@@ -1,5 +1,4 @@
 use native.Mathlib.Omega.{arith}
-use Prim.Native.Nat.{◌-◌}
 use Rattle.hevc_subblock.specs.GreaterLaws.{marking_begins, marking_ends, marking_refused, marking_bit, marking_fits, marking_on}
 use Rattle.hevc_subblock.proofs.greater.greater1.Goals as goal
 

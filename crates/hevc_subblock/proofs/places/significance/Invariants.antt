@@ -1,4 +1,3 @@
-use Prim.Native.Nat.{◌-◌}
 use Rattle.hevc_places.specs.PlacesAgree.{number_at}
 use Rattle.hevc_subblock.specs.PlacesLaws.{Placing}
 use Rattle.hevc_subblock.proofs.places.significance.Given as goal

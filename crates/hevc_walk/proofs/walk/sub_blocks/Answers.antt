@@ -1,7 +1,5 @@
 use native.Mathlib.Omega.{arith}
 use Prim.Native.Nat.{◌-◌, ◌*◌, ◌≤◌}
-use mathlib.Core.Path.{◌≡◌}
-use lib.ListN.{length}
 use Rattle.hevc_residual.specs.Wanted.{area, width}
 use Rattle.hevc_rules.specs.SubsAgree.{last_of}
 use Rattle.hevc_rules.specs.WalkLaws.{last_column, last_row, sub_spot, sub_site}
@@ -12,16 +10,6 @@ use Rattle.hevc_sub_blocks.specs.SmallLaws.{zeros_long}
 use Rattle.hevc_levels.specs.StoredLaws.{keeps_none}
 use Rattle.hevc_subblock.specs.CarriedKeeps.{keeps_carried}
 use Rattle.hevc_walk.proofs.walk.sub_blocks.Goals as goal
-
-long : (c : goal.Start) → length c.args.block.now ≡ area c.args.p
-long c = zeros_long c.args.p c.args.block.now c.requires.4
-
-within : (c : goal.In-loop-i) → c.loop-i.i - 1 ≤ last_of c.args.p c.args.h
-within c = omega (arith, c.loop-i.invariant.0.few, c.loop-i-test.true)
-
-few : (c : goal.In-loop-i) → c.loop-i.i ≤ 64
-few c =
-    omega (arith, c.loop-i.invariant.0.few, last_few c.args.p c.args.h c.requires.2 c.number_in-last.result c.number_in-last.ensures, c.number_in-last.ensures)
 
 pub inner_order-order-requires : goal.inner_order-order-requires
 inner_order-order-requires c = c.requires.2.scan
@@ -39,57 +27,81 @@ pub overflow_sub-p : goal.overflow_sub-p
 overflow_sub-p c = c.requires.2.least
 
 pub number_in-last-requires : goal.number_in-last-requires
-number_in-last-requires c = let a = c.args in let g = c.requires.2 in (omega (arith, g.most), g.scan, last_column a.p a.h c.requires.2, last_row a.p a.h c.requires.2)
+number_in-last-requires c =
+    let a = c.args in
+    let g = c.requires.2 in (omega (arith, g.most), g.scan, last_column a.p a.h c.requires.2, last_row a.p a.h c.requires.2)
 
 pub number_in-lastin-requires : goal.number_in-lastin-requires
 number_in-lastin-requires c = (omega arith, c.requires.2.scan, omega arith, omega arith)
 
 pub overflow_add-i : goal.overflow_add-i
-overflow_add-i c = let a = c.args in omega (arith, last_few a.p a.h c.requires.2 c.number_in-last.result c.number_in-last.ensures)
+overflow_add-i c =
+    let a = c.args in
+    omega (arith, last_few a.p a.h c.requires.2 c.number_in-last.result c.number_in-last.ensures)
 
 pub loop-i-init : goal.loop-i-init
 loop-i-init c =
     let a = c.args in
-    (code_begins a.p a.h a.list a.bytes.now a.x a.contexts.now a.coded.now a.block.now a.stats.now c.number_in-last.result c.number_in-last.ensures c.requires.0 c.requires.3 (long c) c.requires.5, keeps_none a.p a.block.now c.requires.4)
+    let long = zeros_long c.args.p c.args.block.now c.requires.4 in
+    (code_begins a.p a.h a.list a.bytes.now a.x a.contexts.now a.coded.now a.block.now a.stats.now c.number_in-last.result c.number_in-last.ensures c.requires.0 c.requires.3 long c.requires.5, keeps_none a.p a.block.now c.requires.4)
 
 pub overflow_sub-i : goal.overflow_sub-i
 overflow_sub-i c = omega (arith, c.loop-i-test.true)
 
 pub overflow_cast-xs : goal.overflow_cast-xs
-overflow_cast-xs c = omega (arith, few c)
+overflow_cast-xs c =
+    let few : c.loop-i.i ≤ 64 = omega (arith, c.loop-i.invariant.0.few, last_few c.args.p c.args.h c.requires.2 c.number_in-last.result c.number_in-last.ensures, c.number_in-last.ensures) in
+    omega (arith, few)
 
 pub offset_bounds-outer-i : goal.offset_bounds-outer-i
-offset_bounds-outer-i c = omega (arith, few c)
+offset_bounds-outer-i c =
+    let few : c.loop-i.i ≤ 64 = omega (arith, c.loop-i.invariant.0.few, last_few c.args.p c.args.h c.requires.2 c.number_in-last.result c.number_in-last.ensures, c.number_in-last.ensures) in
+    omega (arith, few)
 
 pub bounds-outer-i : goal.bounds-outer-i
-bounds-outer-i c = omega (arith, few c, c.loop-i-test.true)
+bounds-outer-i c =
+    let few : c.loop-i.i ≤ 64 = omega (arith, c.loop-i.invariant.0.few, last_few c.args.p c.args.h c.requires.2 c.number_in-last.result c.number_in-last.ensures, c.number_in-last.ensures) in
+    omega (arith, few, c.loop-i-test.true)
 
 pub bounds-outer-0 : goal.bounds-outer-0
 bounds-outer-0 c = omega arith
 
 pub overflow_cast-xs-in-loop-i : goal.overflow_cast-xs-in-loop-i
-overflow_cast-xs-in-loop-i c = let a = c.args in omega (arith, column_few a.p a.h c.requires.2 c.outer_order-outer.result c.outer_order-outer.ensures (c.loop-i.i - 1) (within c))
+overflow_cast-xs-in-loop-i c =
+    let a = c.args in
+    let within : c.loop-i.i - 1 ≤ last_of c.args.p c.args.h = omega (arith, c.loop-i.invariant.0.few, c.loop-i-test.true) in
+    omega (arith, column_few a.p a.h c.requires.2 c.outer_order-outer.result c.outer_order-outer.ensures (c.loop-i.i - 1) within)
 
 pub overflow_cast-ys : goal.overflow_cast-ys
-overflow_cast-ys c = omega (arith, few c)
+overflow_cast-ys c =
+    let few : c.loop-i.i ≤ 64 = omega (arith, c.loop-i.invariant.0.few, last_few c.args.p c.args.h c.requires.2 c.number_in-last.result c.number_in-last.ensures, c.number_in-last.ensures) in
+    omega (arith, few)
 
 pub offset_bounds-outer-i-in-loop-i : goal.offset_bounds-outer-i-in-loop-i
-offset_bounds-outer-i-in-loop-i c = omega (arith, few c)
+offset_bounds-outer-i-in-loop-i c =
+    let few : c.loop-i.i ≤ 64 = omega (arith, c.loop-i.invariant.0.few, last_few c.args.p c.args.h c.requires.2 c.number_in-last.result c.number_in-last.ensures, c.number_in-last.ensures) in
+    omega (arith, few)
 
 pub bounds-outer-i-in-loop-i : goal.bounds-outer-i-in-loop-i
-bounds-outer-i-in-loop-i c = omega (arith, few c, c.loop-i-test.true)
+bounds-outer-i-in-loop-i c =
+    let few : c.loop-i.i ≤ 64 = omega (arith, c.loop-i.invariant.0.few, last_few c.args.p c.args.h c.requires.2 c.number_in-last.result c.number_in-last.ensures, c.number_in-last.ensures) in
+    omega (arith, few, c.loop-i-test.true)
 
 pub bounds-outer-1 : goal.bounds-outer-1
 bounds-outer-1 c = omega arith
 
 pub overflow_cast-ys-in-loop-i : goal.overflow_cast-ys-in-loop-i
-overflow_cast-ys-in-loop-i c = let a = c.args in omega (arith, row_few a.p a.h c.requires.2 c.outer_order-outer.result c.outer_order-outer.ensures (c.loop-i.i - 1) (within c))
+overflow_cast-ys-in-loop-i c =
+    let a = c.args in
+    let within : c.loop-i.i - 1 ≤ last_of c.args.p c.args.h = omega (arith, c.loop-i.invariant.0.few, c.loop-i-test.true) in
+    omega (arith, row_few a.p a.h c.requires.2 c.outer_order-outer.result c.outer_order-outer.ensures (c.loop-i.i - 1) within)
 
 pub sub_block-r-requires : goal.sub_block-r-requires
 sub_block-r-requires c =
     let a = c.args in
+    let within : c.loop-i.i - 1 ≤ last_of c.args.p c.args.h = omega (arith, c.loop-i.invariant.0.few, c.loop-i-test.true) in
     let j = c.loop-i.invariant.0 in
-    let m = within c in (
+    let m = within in (
       j.reads,
       c.requires.1,
       c.inner_order-order.ensures,
@@ -111,7 +123,9 @@ pub shape_of-coded-in_default : goal.shape_of-coded-in_default
 shape_of-coded-in_default c = as_long c.sub_block-r.new.coded c.args.coded.now (width c.args.p * width c.args.p) c.sub_block-r.ensures.0 c.requires.3
 
 pub shape_of-block-in_default : goal.shape_of-block-in_default
-shape_of-block-in_default c = as_long c.sub_block-r.new.block c.args.block.now (area c.args.p) c.sub_block-r.ensures.1 (long c)
+shape_of-block-in_default c =
+    let long = zeros_long c.args.p c.args.block.now c.requires.4 in
+    as_long c.sub_block-r.new.block c.args.block.now (area c.args.p) c.sub_block-r.ensures.1 long
 
 pub returns-in_default : goal.returns-in_default
 returns-in_default c =
@@ -130,7 +144,9 @@ pub shape_of-coded : goal.shape_of-coded
 shape_of-coded c = as_long c.loop-i.coded c.args.coded.now (width c.args.p * width c.args.p) c.loop-i.invariant.0.flags c.requires.3
 
 pub shape_of-block : goal.shape_of-block
-shape_of-block c = as_long c.loop-i.block c.args.block.now (area c.args.p) c.loop-i.invariant.0.places (long c)
+shape_of-block c =
+    let long = zeros_long c.args.p c.args.block.now c.requires.4 in
+    as_long c.loop-i.block c.args.block.now (area c.args.p) c.loop-i.invariant.0.places long
 
 pub returns : goal.returns
 returns c =

@@ -1,4 +1,3 @@
-use Prim.Native.Nat.{◌-◌}
 use Rattle.hevc_walk.specs.WalkLaws.{Walking}
 use Rattle.hevc_stored.specs.StoredAgree.{Keeps}
 use Rattle.hevc_walk.proofs.walk.sub_blocks.Given as goal

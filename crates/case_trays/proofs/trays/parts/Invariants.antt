@@ -1,0 +1,9 @@
+use Prim.Native.Nat.{◌≤◌, ◌-◌}
+use Rattle.case_trays.proofs.trays.parts.Given as goal
+
+-- `parts` meets its contract. Assumes nothing.
+abbrev pub invariant-loop-i : goal.invariant-loop-i
+invariant-loop-i l = l.i ≤ 300
+
+abbrev pub decreases-loop-i : goal.decreases-loop-i
+decreases-loop-i l = 300 - l.i

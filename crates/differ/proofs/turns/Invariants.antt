@@ -1,0 +1,8 @@
+use Rattle.differ.proofs.turns.Given as goal
+
+-- `turns` meets its contract. Assumes nothing.
+abbrev pub invariant-loop-left : goal.invariant-loop-left
+invariant-loop-left l = Unit {0}
+
+abbrev pub decreases-loop-left : goal.decreases-loop-left
+decreases-loop-left l = l.buffer

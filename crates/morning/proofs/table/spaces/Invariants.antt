@@ -1,0 +1,9 @@
+use Prim.Native.Nat.{◌≤◌, ◌-◌}
+use Rattle.morning.proofs.table.spaces.Given as goal
+
+-- `spaces` meets its contract. Assumes nothing.
+abbrev pub invariant-loop-i : goal.invariant-loop-i
+invariant-loop-i l = l.i ≤ l.out
+
+abbrev pub decreases-loop-i : goal.decreases-loop-i
+decreases-loop-i l = l.out - l.i

@@ -1,0 +1,9 @@
+use Prim.Native.Nat.{◌≤◌, ◌-◌}
+use Rattle.morning_maps.proofs.maps.changes_below.Given as goal
+
+-- `changes_below` meets its contract. Assumes nothing.
+abbrev pub invariant-loop-row : goal.invariant-loop-row
+invariant-loop-row l = row ≤ l.t
+
+abbrev pub decreases-loop-row : goal.decreases-loop-row
+decreases-loop-row l = l.t - row

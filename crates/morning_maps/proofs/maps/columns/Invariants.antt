@@ -1,0 +1,9 @@
+use Prim.Native.Nat.{◌≤◌, ◌-◌}
+use Rattle.morning_maps.proofs.maps.columns.Given as goal
+
+-- `columns` meets its contract. Assumes nothing.
+abbrev pub invariant-loop-i : goal.invariant-loop-i
+invariant-loop-i l = l.initial.i ≤ l.out
+
+abbrev pub decreases-loop-i : goal.decreases-loop-i
+decreases-loop-i l = l.out - l.initial.i

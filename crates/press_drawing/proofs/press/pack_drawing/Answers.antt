@@ -1,0 +1,43 @@
+use native.Mathlib.Omega.{arith}
+use mathlib.Core.Path.{refl}
+use Rattle.press_frame.specs.PressCode.{payload_fits, payload_count, frame_said, no_said}
+use Rattle.press_drawing.proofs.press.pack_drawing.Goals as goal
+
+pub slice_bounds-payload-end : goal.slice_bounds-payload-end
+slice_bounds-payload-end c =
+    let a = c.args in
+    (payload_fits a.head.now a.values.now a.list.now _ _ _ _ _ _ _ _ c.requires.1 c.init_contexts.ensures.0 c.init_contexts.ensures.1
+    c.init_contexts.ensures.2 c.params.ensures c.pack_bins-r.ensures.0 _ c.in-Payload.is).1
+
+pub slice_bounds-put_frame-end : goal.slice_bounds-put_frame-end
+slice_bounds-put_frame-end c =
+    let a = c.args in
+    payload_count a.head.now a.values.now a.list.now _ _ _ _ _ _ _ _ c.requires.1 c.init_contexts.ensures.0 c.init_contexts.ensures.1
+    c.init_contexts.ensures.2 c.params.ensures c.pack_bins-r.ensures.0 _ c.in-Payload.is
+
+pub put_frame-requires : goal.put_frame-requires
+put_frame-requires c =
+    let a = c.args in
+    let h = c.requires in
+    let fits = payload_fits a.head.now a.values.now a.list.now _ _ _ _ _ _ _ _ c.requires.1 c.init_contexts.ensures.0 c.init_contexts.ensures.1
+    c.init_contexts.ensures.2 c.params.ensures c.pack_bins-r.ensures.0 _ c.in-Payload.is in
+    let count = payload_count a.head.now a.values.now a.list.now _ _ _ _ _ _ _ _ c.requires.1 c.init_contexts.ensures.0 c.init_contexts.ensures.1
+    c.init_contexts.ensures.2 c.params.ensures c.pack_bins-r.ensures.0 _ c.in-Payload.is in
+    (h.0, h.1, omega (arith, fits.0, count), h.2)
+
+pub returns-in-Payload : goal.returns-in-Payload
+returns-in-Payload c =
+    let a = c.args in (
+      frame_said a.head.now a.values.now a.list.now _ _ _ _ _ _ _ _ c.requires.1 c.init_contexts.ensures.0 c.init_contexts.ensures.1
+          c.init_contexts.ensures.2 c.params.ensures c.pack_bins-r.ensures.0 _ _ c.in-Payload.is
+          c.put_frame.ensures,
+      tt,
+    )
+
+pub returns-in-Refused : goal.returns-in-Refused
+returns-in-Refused c =
+    let a = c.args in (
+      no_said a.head.now a.values.now a.list.now _ _ _ _ _ _ _ _ c.requires.1 c.init_contexts.ensures.0 c.init_contexts.ensures.1
+          c.init_contexts.ensures.2 c.params.ensures c.pack_bins-r.ensures.0 _ _ c.in-Refused.is c.line_number.ensures,
+      refl,
+    )

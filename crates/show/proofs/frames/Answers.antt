@@ -1,0 +1,12 @@
+use native.Mathlib.Omega.{arith}
+use Prim.Native.Nat.{◌-◌}
+use Rattle.show.proofs.frames.Goals as goal
+
+pub loop-from-init : goal.loop-from-init
+loop-from-init c = omega arith
+
+pub loop-from-smaller : goal.loop-from-smaller
+loop-from-smaller c = omega arith
+
+pub loop-from-preserved : goal.loop-from-preserved
+loop-from-preserved c = omega arith

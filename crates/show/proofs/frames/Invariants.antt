@@ -1,0 +1,10 @@
+use Prim.Native.Nat.{◌≤◌, ◌+◌, ◌-◌}
+use lib.ListN.{length}
+use Rattle.show.proofs.frames.Given as goal
+
+-- `frames` meets its contract. Assumes nothing.
+abbrev pub invariant-loop-from : goal.invariant-loop-from
+invariant-loop-from l = l.initial.from ≤ length l.out + 1
+
+abbrev pub decreases-loop-from : goal.decreases-loop-from
+decreases-loop-from l = length l.out + 1 - l.initial.from

@@ -1,0 +1,9 @@
+use native.Mathlib.Omega.{arith}
+use Prim.Native.Nat.{◌-◌}
+use Rattle.show.proofs.h264.by_place.Goals as goal
+
+pub bounds-levels-i : goal.bounds-levels-i
+bounds-levels-i c = omega arith
+
+pub loop-i-preserved : goal.loop-i-preserved
+loop-i-preserved c = omega arith

@@ -1,0 +1,9 @@
+use Prim.Native.Nat.{◌≤◌, ◌-◌}
+use Rattle.show_grid.proofs.grid.heads.Given as goal
+
+-- `heads` meets its contract. Assumes nothing.
+abbrev pub invariant-loop-column : goal.invariant-loop-column
+invariant-loop-column l = 0 ≤ l.initial.column
+
+abbrev pub decreases-loop-column : goal.decreases-loop-column
+decreases-loop-column l = l.from - l.initial.column

@@ -1,0 +1,9 @@
+use Prim.Native.Nat.{◌≤◌, ◌-◌}
+use Rattle.show_grid.proofs.grid.panel.Given as goal
+
+-- `panel` meets its contract. Assumes nothing.
+abbrev pub invariant-loop-row : goal.invariant-loop-row
+invariant-loop-row l = 0 ≤ l.initial.row
+
+abbrev pub decreases-loop-row : goal.decreases-loop-row
+decreases-loop-row l = l.f - l.initial.row

@@ -1,0 +1,7 @@
+use Rattle.text_fields.specs.FieldLaws.{part_is}
+use Rattle.text.proofs.lines.part.Goals as goal
+
+pub returns : goal.returns
+returns c =
+    let a = c.args in
+    part_is a.buf.now a.from a.to _ _ c.least-end.ensures c.least-start.ensures
