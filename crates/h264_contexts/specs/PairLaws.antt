@@ -1,12 +1,11 @@
 -- Contexts from pairs, as the code makes them: a number raised to be a natural one, the formula, and the two loops. Assumes nothing.
 use Rattle.std.specs.Prelude.{ℕ, zero, suc, ◌+◌, ◌-◌, ◌*◌, ◌/◌, ◌≤◌, ◌<◌, min, Bool, ◌&&◌, cond, length, get_or, set, leb, ltb, T, ℤ, pos, negsuc, nat_abs, ◌+ℤ◌}
 use Rattle.std.proofs.Math.Path.{◌≡◌, refl, sym, ap}
-use Rattle.std.proofs.Common.{ap₂, subst, ◌∙◌, arith, add-one, mul-le-mul_left, length-set, ext_get_or, drop-cons, get_or-set_same, get_or-set_other, SFits, Fits, to_z, of_z, to_z-of_z, ltb-true, ltb-false, lt-ltb, le-ltb, le-leb, eq-eqb, ne_eqb, eqb-true}
+use Rattle.std.proofs.Common.{ap₂, subst, ◌∙◌, arith, add-one, mul-le-mul_left, length-set, ext_get_or, drop-cons, get_or-set_same, get_or-set_other, SFits, to_z, of_z, to_z-of_z, ltb-true, ltb-false, lt-ltb, le-ltb, le-leb, eq-eqb, ne_eqb, eqb-true}
 use Rattle.std.proofs.Math.Bool.{true, false}
 use mathlib.Core.List.{List, [], ◌∷◌}
 use Rattle.std.proofs.Math.ListN.{drop, drop_of_length-le}
 use Rattle.std.proofs.Math.Dec.{eqb}
-use Rattle.std.proofs.Math.IntN.{sub_ℕ}
 use Rattle.std.specs.Int.Signed.{lt_z, le_z, non_neg}
 use Rattle.std.specs.Int.{w32}
 use Rattle.std.proofs.lemmas.Bool.{lt-leb, eqb-false}

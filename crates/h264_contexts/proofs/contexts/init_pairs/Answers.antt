@@ -7,7 +7,7 @@ use lib.ListN.{get_or}
 use lib.IntN.{pos}
 use Rattle.h264_contexts.specs.PairLaws.{within_at, pairs_passed, inited_none, inited_again, inited_all, after_refused, after_passed}
 use mathlib.Core.Path.{◌≡◌, refl, sym, subst, ◌∙◌}
-use Prim.Native.Nat.{◌-◌, ◌*◌, ◌+◌}
+use Prim.Native.Nat.{◌*◌, ◌+◌}
 use native.Mathlib.Omega.{arith}
 use Rattle.h264_contexts.proofs.contexts.init_pairs.Goals as goal
 

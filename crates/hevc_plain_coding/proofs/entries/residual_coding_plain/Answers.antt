@@ -9,10 +9,10 @@ returns-then-a-ne0 c =
 
 pub returns-then-b-ne0 : goal.returns-then-b-ne0
 returns-then-b-ne0 c =
-    let a = c.before.args in
-    payload_second a.bytes.now a.e a.contexts.now a.stats.now a.p a.block.now (sym c.if1.false ∙ c.payload-refusal.ensures) c.plain_checks-b.result c.plain_checks-b.ensures c.if-b-ne0.true
+    let a = c.args in
+    payload_second a.bytes.now a.e a.contexts.now a.stats.now a.p a.block.now (sym c.if-a-ne0.false ∙ c.payload_refusal-a.ensures) c.plain_checks-b.result c.plain_checks-b.ensures c.if-b-ne0.true
 
 pub returns : goal.returns
 returns c =
-    let a = c.before.args in
+    let a = c.args in
     payload_left a.bytes.now a.e a.contexts.now a.stats.now a.p a.block.now (sym c.if-b-ne0.false ∙ c.plain_checks-b.ensures) _ c.residual_coding.ensures
