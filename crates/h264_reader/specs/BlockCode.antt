@@ -1,21 +1,20 @@
 -- The whole block as its code reads it. Assumes nothing.
-use Rattle.std.specs.Prelude.{ℕ, zero, suc, ◌+◌, ◌-◌, ◌≤◌, ◌<◌, ◌≡◌, refl, Bool, true, false, cond, length, get_or, set, take, drop, replicate, ℤ, pos, nat_abs, ltb}
-use Rattle.std.proofs.Common.{sym, subst, ◌∙◌, arith, add-one, length-set, take_all}
+use Rattle.std.specs.Prelude.{ℕ, suc, ◌+◌, ◌≤◌, ◌<◌, ◌≡◌, refl, Bool, length, get_or, set, drop, replicate, ℤ, pos}
+use Rattle.std.proofs.Common.{sym, subst, ◌∙◌, arith, add-one, take_all}
 use Rattle.std.proofs.Math.Path.{ap}
-use mathlib.Core.List.{List, [], ◌∷◌, ◌++◌}
-use Rattle.std.proofs.lemmas.List.{length-replicate}
+use mathlib.Core.List.{List, [], ◌++◌}
 use Rattle.std.proofs.Math.Seq.{paste, paste-zero, paste-suc}
 use Rattle.std.proofs.lemmas.List.Edits.{length-paste}
 use Rattle.bins.specs.declared.state.Interval.{Interval}
 use Rattle.bins.specs.declared.state.Refusal.{Refusal}
 use Rattle.bins.specs.declared.state.Step.{Step}
 use Rattle.bins.specs.declared.state.Step.TheVariants as step
-use Rattle.bins.specs.Syn.{stop, ◌>>=◌, Source, Out, run}
-use Rattle.bins.specs.Sources.{Cursor, cursor, by_code, stopped}
-use Rattle.bins.specs.Laws.{RefusedBy, bind_ok, bind_no}
+use Rattle.bins.specs.Syn.{◌>>=◌}
+use Rattle.bins.specs.Sources.{cursor, by_code, stopped}
+use Rattle.bins.specs.Laws.{bind_ok, bind_no}
 use Rattle.trees.specs.Levels.{down_from, greatest_of}
 use Rattle.trees.specs.Agree.{Reads, from, reads_on}
-use Rattle.h264_block.specs.Block.{S, level_at, places_s, magnitude_s, levels_s, block}
+use Rattle.h264_block.specs.Block.{S, places_s, levels_s, block}
 use Rattle.trees.specs.Reached.{each_run}
 use Rattle.h264_block.proofs.BlockBounds.{block_each}
 use Rattle.h264_block.specs.Entries.{block_with, cleared}

@@ -6,7 +6,6 @@ use Rattle.std.proofs.Common.{◌∙◌, arith, add-one, ltb-false, lt-ltb, le-l
 use Rattle.std.proofs.Math.Bool.{true, false}
 use mathlib.Core.List.{List, [], ◌∷◌, ◌++◌}
 use Rattle.std.proofs.Math.ListN.{length, get_or, drop, replicate, drop_of_length-le}
-use Rattle.std.proofs.lemmas.List.{length-replicate}
 use Rattle.std.proofs.Math.Seq.{drop-cons, drop_at}
 use Rattle.bins.specs.declared.state.Engine.{Engine}
 use Rattle.bins.specs.declared.state.Interval.{Interval}
@@ -16,14 +15,14 @@ use Rattle.bins.specs.declared.state.Step.TheVariants as step
 use Rattle.bins.specs.Bits.{ends, past_most}
 use Rattle.bins.specs.Engine.{place}
 use Rattle.bins.specs.Interval.{opened, settled, place_of, Goes}
-use Rattle.bins.specs.Syn.{Out, Reading, run, by_engine, by_list}
+use Rattle.bins.specs.Syn.{Out, run, by_list}
 use Rattle.bins.specs.Sources.{Cursor, cursor, by_code, stopped}
-use Rattle.bins.specs.Laws.{RefusedBy, map_out}
+use Rattle.bins.specs.Laws.{map_out}
 use Rattle.bins.specs.CodeLaws.{Packed}
 use Rattle.bins.specs.EngineRuns.{runs_goes}
 use Rattle.bins.specs.Settled.{seen, run_opened}
 use Rattle.bins.specs.Listed.{left, run_listed}
-use Rattle.cabac.specs.Numbers.{accepted, refused, ◌or_else◌, payload_refusal, state_refusal, context_refusal, ended_refusal}
+use Rattle.cabac.specs.Numbers.{◌or_else◌, payload_refusal, state_refusal, context_refusal, ended_refusal}
 use Rattle.cabac.specs.NumberLaws.{or_else_first, or_else_rest, or_else_zero, payload_passed, state_fits, state_counts, state_runs}
 use Rattle.trees.specs.Agree.{Reads, from, reads_on}
 use Rattle.trees.specs.Levels.{greatest_of}
@@ -32,7 +31,7 @@ use Rattle.trees.specs.Reached.{each_run}
 use Rattle.h264_block.specs.Block.{block}
 use Rattle.h264_block.proofs.BlockBounds.{block_each}
 use Rattle.h264_block.specs.EntryLaws.{block_passed}
-use Rattle.h264_block.specs.Entries.{PayloadRead, BinsRead, block_refusal, block_with, cleared, read_by_engine, read_payload_by, read_payload, read_from_list, read_bins_by, read_bins}
+use Rattle.h264_block.specs.Entries.{block_refusal, block_with, cleared, read_by_engine, read_payload_by, read_payload, read_from_list, read_bins_by, read_bins}
 use Rattle.h264_reader.specs.declared.entries.Read.TheVariants as read
 use Rattle.h264_reader.specs.declared.entries.ReadList.TheVariants as readlist
 use Rattle.h264_block.specs.BlockAgree.{SaysInto}

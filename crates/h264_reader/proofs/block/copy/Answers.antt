@@ -1,10 +1,9 @@
-use mir.Syntax.{w32}
-use mir.Val.{SFits}
-use lib.IntN.{pos}
-use lib.ListN.{get_or}
 use mir.Facts.{to_z-of_z}
-use lib.ListN.{set}
-use Prim.Native.Nat.{◌-◌, ◌+◌}
+use lib.ListN.{get_or, set}
+use lib.IntN.{pos}
+use mir.Val.{SFits}
+use mir.Syntax.{w32}
+use Prim.Native.Nat.{◌+◌}
 use mathlib.Core.Path.{sym, subst}
 use native.Mathlib.Omega.{arith}
 use Rattle.h264_reader.specs.BlockCode.{Copying, copy_begins, copy_again, copy_ends}
@@ -42,4 +41,5 @@ loop-i-preserved c =
     let a = c.args in
     let h = c.requires in
     let f : SFits w32 (get_or a.levels.now c.loop-i.i (pos 0)) = record { sfits = c.block-1.given } in
-    subst (λ z. Copying a.block.now a.levels.now (set c.loop-i.block c.loop-i.i z) (c.loop-i.i + 1)) (sym (to_z-of_z f)) (copy_again a.block.now a.levels.now h.0 c.loop-i.block c.loop-i.i c.loop-i.invariant h.1 c.loop-i-test.true _)
+    subst (λ z. Copying a.block.now a.levels.now (set c.loop-i.block c.loop-i.i z) (c.loop-i.i + 1)) (sym (to_z-of_z f))
+    (copy_again a.block.now a.levels.now h.0 c.loop-i.block c.loop-i.i c.loop-i.invariant h.1 c.loop-i-test.true _)

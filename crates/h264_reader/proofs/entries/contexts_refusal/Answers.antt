@@ -1,4 +1,3 @@
-use Prim.Native.Nat.{◌-◌}
 use mathlib.Core.Path.{refl}
 use native.Mathlib.Omega.{arith}
 use Rattle.h264_reader.specs.EntriesLaws.{contexts_on, contexts_high, contexts_end}

@@ -31,6 +31,11 @@ returns-in_default c =
     c.read_into-r.new.block c.read_into-r.ensures c.step_refusal.result
     (step_number c.read_into-r.result _ c.step_refusal.result c.in_default.is c.step_refusal.ensures)
 
+pub copy-requires : goal.copy-requires
+copy-requires c =
+    let a = c.args in
+    (omega (arith, block_passed a.block.now (sym c.if-n-ne0.false ∙ c.block_refusal-n.ensures)), refl)
+
 pub returns-then-at-bytes : goal.returns-then-at-bytes
 returns-then-at-bytes c =
     let a = c.args in
