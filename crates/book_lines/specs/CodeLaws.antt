@@ -1,5 +1,5 @@
 -- Laws as the code meets them: a byte, a line's form, the line that is being read. Assumes nothing.
-use Rattle.std.specs.Prelude.{ℕ, zero, suc, ◌+◌, ◌-◌, ◌*◌, ◌%◌, ◌≤◌, ◌<◌, ◌≡◌, refl, Bool, ◌&&◌, ◌||◌, cond, leb, eqb, drop, get_or, set}
+use Rattle.std.specs.Prelude.{ℕ, zero, suc, ◌+◌, ◌-◌, ◌*◌, ◌%◌, ◌≤◌, ◌<◌, ◌≡◌, refl, Bool, ◌&&◌, cond, leb, eqb, drop, get_or, set}
 use Rattle.std.proofs.Common.{arith, add-one, ◌∙◌, drop_of_length-le, take_all, take_at, take-suc}
 use Rattle.std.proofs.Math.Path.{sym, ap}
 use Rattle.std.proofs.Math.Bool.{true, false}
@@ -9,7 +9,6 @@ use Rattle.std.proofs.Math.Seq.{drop-cons, take-suc-set, length-take-le}
 use borrow.Author.Tests.{leb-true, le-leb, lt-leb, eq-eqb, ne_eqb}
 use Rattle.text_fields.specs.Spelled.{within}
 use Rattle.text_fields.specs.SpelledLaws.{inside}
-use Rattle.book_lines.specs.declared.pending.Pending.{Pending}
 use Rattle.book_lines.specs.Lines.{Line, line_of, ended, line_feed, last_line, written}
 use Rattle.book_lines.specs.Form.{most_digits, front_digits, is_digit, all_digits, worth, length_field, spells_bytes, agrees, long_refusal, spelling_refusal, length_refusal, first_of, form_refusal}
 use Rattle.book_lines.specs.Steps.{most_held, Reading, reading, begun, first_line, grown, step_state, step_out, fed_state, fed_out, end_out}

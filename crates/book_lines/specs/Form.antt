@@ -1,5 +1,5 @@
 -- The form of a frame's line: which number it is refused by (document 02, (viii)).
-use Rattle.std.specs.Prelude.{ℕ, zero, suc, ◌+◌, ◌-◌, ◌*◌, ◌%◌, Bool, true, false, ◌&&◌, ◌||◌, cond, List, [], ◌∷◌, leb, eqb, length, get_or}
+use Rattle.std.specs.Prelude.{ℕ, zero, suc, ◌+◌, ◌-◌, ◌*◌, ◌%◌, Bool, true, ◌&&◌, ◌||◌, cond, List, [], ◌∷◌, leb, eqb, length, get_or}
 use Rattle.text_fields.specs.Spelled.{within}
 use Rattle.book_lines.specs.Lines.{Line}
 

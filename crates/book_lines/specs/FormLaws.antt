@@ -1,9 +1,9 @@
 -- Laws of the form. Assumes nothing.
-use Rattle.std.specs.Prelude.{ℕ, zero, suc, ◌+◌, ◌*◌, ◌%◌, ◌≤◌, ◌<◌, min, ◌≡◌, refl, Bool, true, false, ◌&&◌, ◌||◌, cond, List, [], ◌∷◌, ◌++◌, ◌⊎◌, leb, ltb, eqb, length, take, get_or}
-use Rattle.std.proofs.Common.{arith, sym, ap, ◌∙◌, append_assoc, append-nil, inl, inr, ⊎_elim, length-take, take_all, leb-true, leb-false, le-leb, ne_eqb, eqb-true}
+use Rattle.std.specs.Prelude.{ℕ, ◌%◌, ◌≤◌, ◌<◌, ◌≡◌, refl, Bool, true, false, ◌&&◌, ◌||◌, cond, List, [], ◌∷◌, ◌++◌, ◌⊎◌, leb, eqb, length, take}
+use Rattle.std.proofs.Common.{arith, sym, ap, ◌∙◌, append_assoc, append-nil, inl, inr, ⊎_elim, length-take, take_all, leb-true, leb-false, ne_eqb}
 use Rattle.std.proofs.lemmas.Bool.{lt-leb}
 use Rattle.text_fields.specs.Spelled.{within}
-use Rattle.text_fields.specs.SpelledLaws.{both, inside}
+use Rattle.text_fields.specs.SpelledLaws.{both}
 use Rattle.book_lines.specs.Lines.{Line, ended, line_feed, lines_from}
 use Rattle.book_lines.specs.Steps.{most_held}
 use Rattle.book_lines.specs.Form.{most_digits, is_digit, all_digits, spells_bytes, agrees, spelling_refusal, length_refusal, first_of, form_refusal}

@@ -1,13 +1,13 @@
 -- Laws of lines. However a text is cut, piece after piece writes what the definition says of the whole. Assumes nothing.
-use Prim.Native.Nat.{ℕ, zero, suc, ◌+◌, ◌≤◌, ◌<◌}
-use Rattle.std.proofs.Common.{arith, ◌∙◌}
-use Rattle.std.specs.Prelude.{◌≡◌, Bool, cond, length, take}
+use Prim.Native.Nat.{ℕ, zero, suc}
+use Rattle.std.proofs.Common.{◌∙◌}
+use Rattle.std.specs.Prelude.{◌≡◌, Bool, take}
 use Rattle.std.proofs.Math.Path.{refl, sym, ap}
 use Rattle.std.proofs.Math.Bool.{true, false}
-use mathlib.Core.List.{List, [], ◌∷◌, ◌++◌, append_assoc, append-nil}
+use mathlib.Core.List.{List, [], ◌∷◌, ◌++◌, append_assoc}
 use Rattle.std.proofs.Math.Dec.{eqb}
 use Rattle.std.proofs.Math.Seq.{take-nil}
-use Rattle.book_lines.specs.Lines.{Line, ended, line_feed, last_line, lines_from, lines, written, program}
+use Rattle.book_lines.specs.Lines.{Line, ended, line_feed, last_line, lines_from, written, program}
 use Rattle.book_lines.specs.Steps.{most_held, Reading, begun, grown, step_state, step_out, fed_state, fed_out, end_out, pieces_out, joined}
 
 -- ---- a cut anywhere

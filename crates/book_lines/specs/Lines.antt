@@ -1,5 +1,5 @@
 -- A text as lines, and what a program writes of them.
-use Rattle.std.specs.Prelude.{ℕ, zero, suc, Bool, true, false, cond, List, [], ◌∷◌, ◌++◌, eqb}
+use Rattle.std.specs.Prelude.{ℕ, suc, Bool, true, false, cond, List, [], ◌∷◌, ◌++◌, eqb}
 
 abbrev pub line_feed : ℕ
 line_feed = 10

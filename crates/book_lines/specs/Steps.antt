@@ -1,5 +1,5 @@
 -- What a program writes of a text, byte by byte and with bounded memory (LineLaws, cut: it is what `program` says of the whole text).
-use Rattle.std.specs.Prelude.{ℕ, zero, suc, cond, List, [], ◌∷◌, ◌++◌, eqb, take}
+use Rattle.std.specs.Prelude.{ℕ, suc, cond, List, [], ◌∷◌, ◌++◌, eqb, take}
 use Rattle.book_lines.specs.declared.pending.Pending.{Pending}
 use Rattle.book_lines.specs.Lines.{Line, ended, line_feed, last_line, written}
 
