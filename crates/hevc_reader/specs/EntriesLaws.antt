@@ -1,5 +1,5 @@
 -- The entry points' checks, and each way out of them. Assumes nothing.
-use Prim.Native.Nat.{ℕ, zero, suc, ◌+◌, ◌≤◌}
+use Prim.Native.Nat.{ℕ, zero, suc, ◌≤◌}
 use Rattle.std.specs.Prelude.{◌≡◌, refl, Bool, ℤ, pos, replicate}
 use Rattle.std.proofs.Math.Path.{sym, ap, subst}
 use Rattle.std.proofs.Common.{◌∙◌, arith}
@@ -20,7 +20,7 @@ use Rattle.bins.specs.CodeLaws.{Packed}
 use Rattle.bins.specs.EngineRuns.{runs_goes}
 use Rattle.bins.specs.Settled.{seen, run_opened}
 use Rattle.bins.specs.Listed.{left, run_listed}
-use Rattle.cabac.specs.Numbers.{accepted, ◌or_else◌, payload_refusal, state_refusal, ended_refusal}
+use Rattle.cabac.specs.Numbers.{◌or_else◌, payload_refusal, state_refusal, ended_refusal}
 use Rattle.cabac.specs.NumberLaws.{or_else_zero, payload_passed, state_fits, state_counts, state_runs}
 use Rattle.hevc_residual.specs.declared.params.Params.{Params}
 use Rattle.hevc_residual.specs.Wanted.{area}

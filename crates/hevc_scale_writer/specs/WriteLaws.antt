@@ -1,16 +1,16 @@
 -- The scale's writer, call after call, and its ways out. Assumes nothing.
-use Prim.Native.Nat.{ℕ, zero, suc, ◌+◌, ◌*◌, ◌^◌, ◌≤◌, ◌<◌}
-use Rattle.std.specs.Prelude.{◌≡◌, Bool, true, false, cond, ◌||◌, ltb, eqb, ℤ, nat_abs, length, drop}
+use Prim.Native.Nat.{ℕ, zero, suc, ◌+◌, ◌*◌, ◌≤◌}
+use Rattle.std.specs.Prelude.{◌≡◌, Bool, true, false, cond, ◌||◌, eqb, ℤ, nat_abs, length, drop}
 use Rattle.std.proofs.Math.Path.{refl, ap}
 use Rattle.std.proofs.Common.{sym, subst, ◌∙◌, arith}
 use mathlib.Core.List.{List, [], ◌++◌}
 use Rattle.std.proofs.Math.Dec.{leb}
 use borrow.Author.Tests.{eq-eqb, ne_eqb, eqb-true, le-leb, lt-leb}
 use Rattle.bins.specs.Tags.{tag}
-use Rattle.bins.specs.Syn.{Syn, done, bin, ◌>>=◌, Written, write}
+use Rattle.bins.specs.Syn.{done, ◌>>=◌, Written, write}
 use Rattle.bins.specs.Readers.{prefix_s}
-use Rattle.cabac.specs.Numbers.{Answer, accepted, refused, ◌or_else◌}
-use Rattle.hevc_residual.specs.Wanted.{Wanted, S, negative}
+use Rattle.cabac.specs.Numbers.{◌or_else◌}
+use Rattle.hevc_residual.specs.Wanted.{Wanted, negative}
 use Rattle.hevc_residual.specs.declared.params.Rdpcm.TheVariants as of_rdpcm
 use Rattle.hevc_residual.specs.Remainder.{signed}
 use Rattle.pen.specs.declared.room.Pen.{Pen}
@@ -20,7 +20,7 @@ use Rattle.hevc_residual.specs.declared.answers.Written.TheVariants as listed
 use Rattle.pen.specs.RoomPuts.{pen_at, counted_same, counted_long, counted_short, written_all}
 use Rattle.hevc_cross.specs.Scale.{at_value, at_sign, magnitude, value_s, sign_s, scale_s, is_scale, scale}
 use Rattle.hevc_cross.specs.ScaleLaws.{rising, rises, scale_same, signed_back, zero_back}
-use Rattle.hevc_cross.specs.Entries.{component_refusal, scale_refusal, BinsWritten, write_bins_by, write_bins}
+use Rattle.hevc_cross.specs.Entries.{component_refusal, scale_refusal, write_bins_by, write_bins}
 use Rattle.hevc_cross.specs.EntryLaws.{writes_refused, writes_fits, writes_over}
 use Rattle.hevc_cross.specs.Exact.{ReadsAs, written}
 use Rattle.hevc_scale_writer.specs.WriteAgree.{value_of, only}

@@ -1,5 +1,5 @@
 -- What a field spells: a digit, a byte, a number, a row of bytes. WrittenLaws: io writes it so.
-use Rattle.std.specs.Prelude.{ℕ, ◌+◌, ◌-◌, ◌*◌, Bool, true, false, ◌&&◌, ◌||◌, cond, List, [], ◌∷◌, ◌++◌, leb, eqb, length, take, drop}
+use Rattle.std.specs.Prelude.{ℕ, ◌+◌, ◌-◌, ◌*◌, Bool, false, ◌&&◌, ◌||◌, cond, List, [], ◌∷◌, ◌++◌, leb, eqb, length, take, drop}
 use Rattle.text_fields.specs.declared.fields.Number.{Number}
 use Rattle.text_fields.specs.declared.fields.Number.TheVariants as ofNumber
 use Rattle.text_fields.specs.declared.fields.Digit.{Digit}

@@ -1,6 +1,6 @@
 -- Laws of text that is put piece behind piece, and of decimal numbers. Assumes nothing.
-use Rattle.std.specs.Prelude.{ℕ, zero, suc, ◌+◌, ◌-◌, ◌*◌, ◌/◌, ◌%◌, ◌^◌, ◌≤◌, ◌<◌, ◌≡◌, refl, Bool, true, false, cond, List, [], ◌∷◌, ◌++◌, ltb, leb, length, take, drop}
-use Rattle.std.proofs.Common.{pow-suc, arith, add-one, sym, ap, subst, ◌∙◌, append_assoc, append-nil, length-take, length-append, length-drop, take_at, take_all, length-take-le, lt-ltb, le-ltb, leb-true, leb-false}
+use Rattle.std.specs.Prelude.{ℕ, zero, suc, ◌+◌, ◌-◌, ◌/◌, ◌%◌, ◌^◌, ◌≤◌, ◌<◌, ◌≡◌, refl, Bool, true, false, cond, List, [], ◌∷◌, ◌++◌, leb, length, take}
+use Rattle.std.proofs.Common.{pow-suc, arith, sym, ap, subst, ◌∙◌, append_assoc, length-take, length-append, take_at, length-take-le, lt-ltb, le-ltb, leb-true, leb-false}
 use Rattle.std.proofs.Math.Seq.{take-append-add, take-length}
 use Rattle.std.proofs.lemmas.List.{take-append-le}
 use Rattle.io.specs.Digits.{hex_digit_ascii, last_digits, IsDigitCount}

@@ -6,12 +6,11 @@ use Rattle.text_room.proofs.put_decimal.Goals as goal
 pub put-requires : goal.put-requires
 put-requires c =
     let a = c.args in
-    omega (arith, decimal_short c.decimal-k.result a.n (omega arith) c.decimal-k.ensures.1.0, c.decimal-k.ensures.0.1)
+    omega (arith, decimal_short c.decimal-k.result a.n (omega arith) c.decimal-k.ensures.len, c.decimal-k.ensures.in_bounds)
 
 pub returns : goal.returns
 returns c =
-    let a = c.args in
-    (
-      one_piece _ (take a.at a.out.now) _ _ c.put.ensures.0 (decimal_front c.decimal-k.result a.n _ (omega arith) c.decimal-k.ensures.1.0 c.decimal-k.ensures.1.1),
-      omega (arith, c.put.ensures.1, c.decimal-k.ensures.0.1, decimal_short c.decimal-k.result a.n (omega arith) c.decimal-k.ensures.1.0),
+    let a = c.args in (
+      one_piece _ (take a.at a.out.now) _ _ c.put.ensures.0 (decimal_front c.decimal-k.result a.n _ (omega arith) c.decimal-k.ensures.len c.decimal-k.ensures.digits),
+      omega (arith, c.put.ensures.1, c.decimal-k.ensures.in_bounds, decimal_short c.decimal-k.result a.n (omega arith) c.decimal-k.ensures.len),
     )

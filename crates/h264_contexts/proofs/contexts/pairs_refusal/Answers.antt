@@ -1,9 +1,11 @@
+use borrow.Author.Tests.{not-true, not-false}
 use Rattle.h264_contexts.specs.PairLaws.{within_back, within_on, within_high, within_end, pairs_few, pairs_out, pairs_fine}
 use mir.Val.{SFits}
 use mir.Syntax.{w32}
 use lib.ListN.{get_or}
 use lib.IntN.{pos}
 use mathlib.Core.Path.{refl, ◌∙◌}
+use Prim.Native.Nat.{◌-◌}
 use native.Mathlib.Omega.{arith}
 use Rattle.h264_contexts.proofs.contexts.pairs_refusal.Goals as goal
 

@@ -46,7 +46,7 @@ returns-then-m-ne0 c =
     let a = c.args in
     let z = sym c.if-n-ne0.false ∙ c.form_refusal-n.ensures in (
       set_far a.f a.levels.now a.counts.now a.sums.now a.whole a.place a.v z c.area_of.result c.area_of.ensures
-          c.if-area_of-place.false c.level_refusal-m.result (c.level_refusal-m.ensures ∙ ap (λ z. level_refusal a.f z) (to_z-of_z c.fits.v))
+          c.if-area_of-place.false c.level_refusal-m.result (c.level_refusal-m.ensures ∙ ap (λ z. level_refusal a.f z) (to_z-of_z c.ranges.v))
           c.if-m-ne0.true,
       λ t. t,
       same_frame a.f.log2 a.place _,
@@ -78,7 +78,7 @@ count_in-t-requires c =
     let a = c.args in
     let z = sym c.if-n-ne0.false ∙ c.form_refusal-n.ensures in
     let p = form_passed a.f a.levels.now z in
-    (p.least, p.most, c.sub_of.ensures.1, rw length-set p.long)
+    (p.least, p.most, c.sub_of-sub.ensures.1, rw length-set p.long)
 
 pub offset_bounds-counts-sub : goal.offset_bounds-counts-sub
 offset_bounds-counts-sub c =
@@ -113,20 +113,20 @@ whole_of-made-requires c =
     let a = c.args in
     let z = sym c.if-n-ne0.false ∙ c.form_refusal-n.ensures in
     let p = form_passed a.f a.levels.now z in
-    (p.least, p.most, omega (arith, c.whole_of-arg-2-1.given.0), omega (arith, c.whole_of-arg-4-1.given.0))
+    (p.least, p.most, omega arith, omega arith)
 
 pub returns : goal.returns
 returns c =
     let a = c.args in
     let z = sym c.if-n-ne0.false ∙ c.form_refusal-n.ensures in
     let i = c.if-area_of-place.false in
-    let v = to_z-of_z c.fits.v in
+    let v = to_z-of_z c.ranges.v in
     let l = sym c.if-m-ne0.false ∙ c.level_refusal-m.ensures ∙ ap (λ z. level_refusal a.f z) v in
     let e = set_done a.f a.levels.now a.counts.now a.sums.now a.whole a.place a.v z c.area_of.result c.area_of.ensures i l _ v
     c.sub_of-sub.result c.count_in-t.result.count c.count_in-t.result.sum c.sub_of-sub.ensures.0 c.count_in-t.ensures.0 c.count_in-t.ensures.1 c.whole_of-made.result c.whole_of-made.ensures in
     let q = set_passes a.f a.levels.now a.counts.now a.sums.now a.whole a.place a.v z c.area_of.result c.area_of.ensures i l in
     let o = set_own a.f.log2 a.levels.now a.place a.v _ c.sub_of-sub.result c.count_in-t.result.sum v c.sub_of-sub.ensures.0 c.count_in-t.ensures.1 c.count_in-t.ensures.2 in
     let g = set_promised a.f a.place a.v (kept_of a.levels.now a.counts.now a.sums.now a.whole) _ e q o
-    (omega (arith, c.whole_of-arg-2-1.given.0, length-set a.counts.now c.sub_of-sub.result c.count_in-t.result.count))
-    (omega (arith, c.whole_of-arg-4-1.given.0, length-set a.sums.now c.sub_of-sub.result c.count_in-t.result.sum)) in
+    (omega (arith, length-set a.counts.now c.sub_of-sub.result c.count_in-t.result.count))
+    (omega (arith, length-set a.sums.now c.sub_of-sub.result c.count_in-t.result.sum)) in
     (e, g.0, g.1)

@@ -1,12 +1,11 @@
 use Prim.Native.Nat.{ℕ, ◌≤◌}
-use mathlib.Core.Path.{◌≡◌, refl, sym, subst, ◌∙◌}
+use mathlib.Core.Path.{refl, sym, subst, ◌∙◌}
 use mathlib.Core.List.{List}
 use native.Mathlib.Omega.{arith}
 use lib.ListN.{length, replicate}
 use Rattle.bins.specs.Tags.{context_count}
 use Rattle.bins.specs.declared.state.Interval.{Interval}
 use Rattle.hevc_residual.specs.Wanted.{area}
-use Rattle.hevc_checks.specs.ChecksAgree.{bins_checks}
 use Rattle.hevc_checks.specs.ChecksLaws.{zeros_packed}
 use Rattle.hevc_reader.specs.EntriesLaws.{bins_no, bins_passed, bins_refused, bins_over, bins_got, blocked_number}
 use Rattle.hevc_reader.proofs.entries.read_bins.Goals as goal
@@ -19,44 +18,46 @@ front = record { range = 256; offset = 0; position = record { 0 = 0 } }
 abbrev zeros : List ℕ
 zeros = replicate context_count 0
 
-passed1 : (c : goal.After-read_into-r) → let a = c.args in 0 ≡ bins_checks a.stats.now a.p a.block.now
-passed1 c = sym c.if-n-ne0.false ∙ c.bins_checks-n.ensures
-
 pub returns-then-n-ne0 : goal.returns-then-n-ne0
 returns-then-n-ne0 c =
-    let a = c.before.args in
+    let a = c.args in
     bins_no a.bytes.now a.stats.now a.p a.block.now c.bins_checks-n.result c.bins_checks-n.ensures c.if-n-ne0.true
 
 pub read_into-r-requires : goal.read_into-r-requires
 read_into-r-requires c =
-    let a = c.before.args in
+    let a = c.args in
     let s = bins_passed a.bytes.now a.stats.now a.p a.block.now (sym c.if-n-ne0.false ∙ c.bins_checks-n.ensures) in
     ((omega arith, zeros_packed context_count), c.decision_table-table.ensures, s.accepted, s.room, s.statistics)
 
 pub returns-in_default : goal.returns-in_default
 returns-in_default c =
     let a = c.args in
-    bins_refused a.bytes.now a.stats.now a.p a.block.now (passed1 c) front refl zeros c.read_into-r.result c.read_into-r.new.contexts c.read_into-r.new.stats c.read_into-r.new.block c.read_into-r.ensures
+    let passed1 = sym c.if-n-ne0.false ∙ c.bins_checks-n.ensures in
+    bins_refused a.bytes.now a.stats.now a.p a.block.now passed1 front refl zeros c.read_into-r.result c.read_into-r.new.contexts c.read_into-r.new.stats c.read_into-r.new.block c.read_into-r.ensures
     c.blocked_refusal.result (blocked_number c.read_into-r.result _ c.blocked_refusal.result c.in_default.is c.blocked_refusal.ensures)
 
 pub area_of-requires : goal.area_of-requires
 area_of-requires c =
     let a = c.args in
-    let s = (bins_passed a.bytes.now a.stats.now a.p a.block.now (passed1 c)).accepted in (s.least, s.most)
+    let passed1 = sym c.if-n-ne0.false ∙ c.bins_checks-n.ensures in
+    let s = (bins_passed a.bytes.now a.stats.now a.p a.block.now passed1).accepted in (s.least, s.most)
 
 pub clear-requires : goal.clear-requires
 clear-requires c =
     let a = c.args in
-    let s = bins_passed a.bytes.now a.stats.now a.p a.block.now (passed1 c) in
-    subst (λ k. k ≤ length c.read_into-r.new.block) (sym c.area_of.ensures) (subst (λ k. area a.p ≤ k) (sym c.read_into-r.auto.1.1.1.1.1.1.0) s.room)
+    let passed1 = sym c.if-n-ne0.false ∙ c.bins_checks-n.ensures in
+    let s = bins_passed a.bytes.now a.stats.now a.p a.block.now passed1 in
+    subst (λ k. k ≤ length c.read_into-r.new.block) (sym c.area_of.ensures) (subst (λ k. area a.p ≤ k) (sym c.read_into-r.auto.block) s.room)
 
 pub returns-then-at-bytes : goal.returns-then-at-bytes
 returns-then-at-bytes c =
     let a = c.args in
-    bins_over a.bytes.now a.stats.now a.p a.block.now (passed1 c) front refl zeros c.read_into-r.result c.read_into-r.new.contexts c.read_into-r.new.stats c.read_into-r.new.block c.read_into-r.ensures c.in-Got.found c.in-Got.x c.in-Got.is
+    let passed1 = sym c.if-n-ne0.false ∙ c.bins_checks-n.ensures in
+    bins_over a.bytes.now a.stats.now a.p a.block.now passed1 front refl zeros c.read_into-r.result c.read_into-r.new.contexts c.read_into-r.new.stats c.read_into-r.new.block c.read_into-r.ensures c.in-Got.found c.in-Got.x c.in-Got.is
     (omega arith, zeros_packed context_count) c.if-at-bytes.true c.area_of.result c.area_of.ensures c.clear.new.block c.clear.ensures
 
 pub returns : goal.returns
 returns c =
     let a = c.args in
-    bins_got a.bytes.now a.stats.now a.p a.block.now (passed1 c) front refl zeros c.read_into-r.result c.read_into-r.new.contexts c.read_into-r.new.stats c.read_into-r.new.block c.read_into-r.ensures c.in-Got.found c.in-Got.x c.in-Got.is c.if-at-bytes.false
+    let passed1 = sym c.if-n-ne0.false ∙ c.bins_checks-n.ensures in
+    bins_got a.bytes.now a.stats.now a.p a.block.now passed1 front refl zeros c.read_into-r.result c.read_into-r.new.contexts c.read_into-r.new.stats c.read_into-r.new.block c.read_into-r.ensures c.in-Got.found c.in-Got.x c.in-Got.is c.if-at-bytes.false

@@ -1,42 +1,39 @@
-use mathlib.Core.Path.{◌≡◌, sym, subst}
+use mathlib.Core.Path.{sym, subst}
 use mathlib.Core.Bool.{false}
 use Rattle.bins.specs.declared.state.Interval.{Interval}
-use Rattle.bins.specs.Interval.{opened, Goes}
-use Rattle.hevc_residual.specs.Answers.{payload_checks}
+use Rattle.bins.specs.Interval.{Goes}
 use Rattle.hevc_read_into.specs.IntoAgree.{SaysInto}
 use Rattle.hevc_reader.specs.EntriesLaws.{checks_passed, payload_refused, payload_got, blocked_number}
 use Rattle.hevc_reader.proofs.entries.read_checked.Goals as goal
 
-passed0 : (c : goal.After-open) → let a = c.args in 0 ≡ payload_checks a.bytes.now a.e a.contexts.now a.stats.now a.p a.block.now
-passed0 c = c.requires.1
-
-passed1 : (c : goal.After-read_into-r) → let a = c.args in 0 ≡ payload_checks a.bytes.now a.e a.contexts.now a.stats.now a.p a.block.now
-passed1 c = passed0 c
-
-into1 : (c : goal.After-read_into-r) → let a = c.args in SaysInto a.p false a.bytes.now (opened a.e) a.contexts.now a.stats.now a.block.now c.read_into-r.result c.read_into-r.new.contexts c.read_into-r.new.stats c.read_into-r.new.block
-into1 c =
-    let a = c.args in
-    subst (λ (x : Interval). SaysInto a.p false a.bytes.now x a.contexts.now a.stats.now a.block.now c.read_into-r.result c.read_into-r.new.contexts c.read_into-r.new.stats c.read_into-r.new.block) c.«open».ensures c.read_into-r.ensures
-
 pub read_into-r-requires : goal.read_into-r-requires
 read_into-r-requires c =
     let a = c.args in
-    let s = checks_passed a.bytes.now a.e a.contexts.now a.stats.now a.p a.block.now (passed0 c) in
+    let passed0 = c.requires.1 in
+    let s = checks_passed a.bytes.now a.e a.contexts.now a.stats.now a.p a.block.now passed0 in
     ((subst (Goes a.bytes.now) (sym c.«open».ensures) s.goes, s.packed), c.requires.0, s.accepted, s.room, s.statistics)
 
 pub returns-in_default : goal.returns-in_default
 returns-in_default c =
     let a = c.args in
-    payload_refused a.bytes.now a.e a.contexts.now a.stats.now a.p a.block.now (passed1 c) c.read_into-r.result c.read_into-r.new.contexts c.read_into-r.new.stats c.read_into-r.new.block (into1 c)
+    let passed0 = c.requires.1 in
+    let passed1 = passed0 in
+    let into1 = subst (λ (x : Interval). SaysInto a.p false a.bytes.now x a.contexts.now a.stats.now a.block.now c.read_into-r.result c.read_into-r.new.contexts c.read_into-r.new.stats c.read_into-r.new.block) c.«open».ensures c.read_into-r.ensures in
+    payload_refused a.bytes.now a.e a.contexts.now a.stats.now a.p a.block.now passed1 c.read_into-r.result c.read_into-r.new.contexts c.read_into-r.new.stats c.read_into-r.new.block into1
     c.blocked_refusal.result (blocked_number c.read_into-r.result _ c.blocked_refusal.result c.in_default.is c.blocked_refusal.ensures)
 
 pub settle-state-requires : goal.settle-state-requires
 settle-state-requires c =
     let a = c.args in
-    (checks_passed a.bytes.now a.e a.contexts.now a.stats.now a.p a.block.now (passed1 c)).short
+    let passed0 = c.requires.1 in
+    let passed1 = passed0 in
+    (checks_passed a.bytes.now a.e a.contexts.now a.stats.now a.p a.block.now passed1).short
 
 pub returns : goal.returns
 returns c =
     let a = c.args in
-    payload_got a.bytes.now a.e a.contexts.now a.stats.now a.p a.block.now (passed1 c) c.read_into-r.result c.read_into-r.new.contexts c.read_into-r.new.stats c.read_into-r.new.block (into1 c)
+    let passed0 = c.requires.1 in
+    let passed1 = passed0 in
+    let into1 = subst (λ (x : Interval). SaysInto a.p false a.bytes.now x a.contexts.now a.stats.now a.block.now c.read_into-r.result c.read_into-r.new.contexts c.read_into-r.new.stats c.read_into-r.new.block) c.«open».ensures c.read_into-r.ensures in
+    payload_got a.bytes.now a.e a.contexts.now a.stats.now a.p a.block.now passed1 c.read_into-r.result c.read_into-r.new.contexts c.read_into-r.new.stats c.read_into-r.new.block into1
     c.in-Got.found c.in-Got.x c.in-Got.is c.settle-state.result c.settle-state.ensures

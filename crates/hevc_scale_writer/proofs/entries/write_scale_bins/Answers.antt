@@ -27,33 +27,33 @@ pub put_scale-counted-requires : goal.put_scale-counted-requires
 put_scale-counted-requires c =
     let a = c.args in
     let h = sym c.if-n-ne0.false ∙ c.component_refusal-n.ensures in
-    let y = value_says a.scale c.value-v.result (c.value-v.ensures ∙ ap (λ z. value_of (nat_abs z)) (to_z-of_z c.fits.scale)) in
+    let y = value_says a.scale c.value-v.result (c.value-v.ensures ∙ ap (λ z. value_of (nat_abs z)) (to_z-of_z c.ranges.scale)) in
     (component_passed a.component h, (y.1 c.if-v-eq5.false).0)
 
 pub returns-then-counted : goal.returns-then-counted
 returns-then-counted c =
     let a = c.args in
     let h = sym c.if-n-ne0.false ∙ c.component_refusal-n.ensures in
-    let y = value_says a.scale c.value-v.result (c.value-v.ensures ∙ ap (λ z. value_of (nat_abs z)) (to_z-of_z c.fits.scale)) in
+    let y = value_says a.scale c.value-v.result (c.value-v.ensures ∙ ap (λ z. value_of (nat_abs z)) (to_z-of_z c.ranges.scale)) in
     let u = y.1 c.if-v-eq5.false in
     promised a.component a.scale a.room.now (listed.Refused 12) c.put_scale-counted.new.room
     (no_room a.component a.scale a.room.now h u.2 c.put_scale-counted.new.room c.put_scale-counted.result
-    (c.put_scale-counted.ensures a.scale any u.1 (sym (c.is_negative-sign.ensures ∙ ap negative (to_z-of_z c.fits.scale)))) c.if-counted.true)
+    (c.put_scale-counted.ensures a.scale any u.1 (sym (c.is_negative-sign.ensures ∙ ap negative (to_z-of_z c.ranges.scale)))) c.if-counted.true)
 
 pub put_scale-written-requires : goal.put_scale-written-requires
 put_scale-written-requires c =
     let a = c.args in
     let h = sym c.if-n-ne0.false ∙ c.component_refusal-n.ensures in
-    let y = value_says a.scale c.value-v.result (c.value-v.ensures ∙ ap (λ z. value_of (nat_abs z)) (to_z-of_z c.fits.scale)) in
+    let y = value_says a.scale c.value-v.result (c.value-v.ensures ∙ ap (λ z. value_of (nat_abs z)) (to_z-of_z c.ranges.scale)) in
     (component_passed a.component h, (y.1 c.if-v-eq5.false).0)
 
 pub returns : goal.returns
 returns c =
     let a = c.args in
     let h = sym c.if-n-ne0.false ∙ c.component_refusal-n.ensures in
-    let y = value_says a.scale c.value-v.result (c.value-v.ensures ∙ ap (λ z. value_of (nat_abs z)) (to_z-of_z c.fits.scale)) in
+    let y = value_says a.scale c.value-v.result (c.value-v.ensures ∙ ap (λ z. value_of (nat_abs z)) (to_z-of_z c.ranges.scale)) in
     let u = y.1 c.if-v-eq5.false in
     promised a.component a.scale a.room.now (listed.List c.put_scale-written.result.at) c.put_scale-written.new.room
     (all_written a.component a.scale a.room.now h u.2 c.put_scale-counted.new.room c.put_scale-counted.result
-    (c.put_scale-counted.ensures a.scale any u.1 (sym (c.is_negative-sign.ensures ∙ ap negative (to_z-of_z c.fits.scale)))) c.if-counted.false c.put_scale-written.new.room c.put_scale-written.result
-    (c.put_scale-written.ensures a.scale any u.1 (sym (c.is_negative-sign.ensures ∙ ap negative (to_z-of_z c.fits.scale)))))
+    (c.put_scale-counted.ensures a.scale any u.1 (sym (c.is_negative-sign.ensures ∙ ap negative (to_z-of_z c.ranges.scale)))) c.if-counted.false c.put_scale-written.new.room c.put_scale-written.result
+    (c.put_scale-written.ensures a.scale any u.1 (sym (c.is_negative-sign.ensures ∙ ap negative (to_z-of_z c.ranges.scale)))))

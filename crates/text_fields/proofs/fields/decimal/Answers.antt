@@ -1,4 +1,3 @@
-use Prim.Native.Nat.{◌-◌}
 use native.Mathlib.Omega.{arith}
 use mathlib.Core.Path.{◌∙◌}
 use Rattle.text_fields.specs.SpelledLaws.{decimal_empty, decimal_first, decimal_none, decimal_more, decimal_end}

@@ -8,11 +8,10 @@ pub returns-in_default-hex_digit : goal.returns-in_default-hex_digit
 returns-in_default-hex_digit c = octet_low _ _ _ _ _ c.hex_digit.ensures c.hex_digit-2.ensures c.in-Is.is c.in_default-hex_digit.is
 
 pub joined-requires : goal.joined-requires
-joined-requires c =
-    (
-      digit_small _ _ _ c.hex_digit.ensures c.in-Is.is,
-      digit_small _ _ _ c.hex_digit-2.ensures c.in-Is-hex_digit.is,
-    )
+joined-requires c = (
+  digit_small _ _ _ c.hex_digit.ensures c.in-Is.is,
+  digit_small _ _ _ c.hex_digit-2.ensures c.in-Is-hex_digit.is,
+)
 
 pub returns : goal.returns
 returns c =
