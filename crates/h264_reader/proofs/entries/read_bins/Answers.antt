@@ -48,8 +48,3 @@ returns c =
     let a = c.args in
     bins_got a.bytes.now a.block.now (sym c.if-n-ne0.false ∙ c.block_refusal-n.ensures) front refl zeros c.read_into-r.result c.read_into-r.new.contexts
     c.read_into-r.new.block c.read_into-r.ensures _ _ c.in-Bin.is c.if-at-bytes.false
-
-pub copy-requires : goal.copy-requires
-copy-requires c =
-    let a = c.args in
-    (omega (arith, c.read_into-r.auto.block, block_passed a.block.now (sym c.if-n-ne0.false ∙ c.block_refusal-n.ensures)), refl)
