@@ -1,5 +1,5 @@
 -- Worked frames: one table, and one statement about the definitions.
-use Rattle.std.specs.Prelude.{ℕ, zero, suc, ◌≡◌, refl, Bool, true, false, ◌&&◌, List, [], ◌∷◌, ◌++◌, eqb, length, set, replicate, ℤ, pos, negsuc}
+use Rattle.std.specs.Prelude.{ℕ, zero, suc, ◌≡◌, refl, Bool, true, false, ◌&&◌, List, [], ◌∷◌, ◌++◌, eqb, set, ℤ, pos, negsuc}
 use Rattle.std.specs.Int.Count.{count_leading_zeros}
 use Rattle.tables.specs.Tables.{range_tab_lps, trans_idx_mps, trans_idx_lps, lps_of, on_mps, on_lps}
 use Rattle.bins.specs.Bits.{bits}

@@ -1,6 +1,6 @@
 -- Laws of a frame of H.264, as the code meets them. Assumes nothing.
 use Prim.Native.Nat.{ℕ, zero, suc, ◌+◌, ◌-◌, ◌*◌, ◌≤◌, ◌<◌}
-use Rattle.std.proofs.Common.{arith, add-one, ap₂, subst, ◌∙◌, length-set, take_all, get_or-take, get_or-set_same, get_or-set_other, SFits, to_z, of_z, le-leb, lt-ltb, le-ltb, leb-true, ltb-true, ltb-false, eqb-true, eq-eqb}
+use Rattle.std.proofs.Common.{arith, subst, ◌∙◌, length-set, take_all, get_or-take, get_or-set_same, get_or-set_other, to_z, of_z, le-leb, lt-ltb, le-ltb, leb-true, ltb-true, ltb-false, eqb-true}
 use Rattle.std.specs.Prelude.{◌≡◌, Bool, true, false, cond, ◌&&◌, leb, ltb, eqb, drop, set, ℤ, pos, ◌-ℤ◌}
 use Rattle.std.proofs.Math.Path.{refl, sym, ap}
 use mathlib.Core.List.{List, [], ◌∷◌, map}
@@ -12,14 +12,14 @@ use Rattle.std.specs.Int.{w32}
 use Rattle.std.proofs.lemmas.Bool.{lt-leb, eqb-false}
 use Rattle.tables.specs.Table.{le_below}
 use Rattle.bins.specs.declared.state.Engine.{Engine}
-use Rattle.cabac.specs.Numbers.{Answer, accepted, refused}
+use Rattle.cabac.specs.Numbers.{accepted, refused}
 use Rattle.cabac.specs.declared.answers.State.{State}
 use Rattle.cabac.specs.declared.answers.State.TheVariants as ofState
 use Rattle.cabac.specs.Entries.{start, state_says}
 use Rattle.level_sizes.specs.SignLaws.{minus_is, plus_is}
 use Rattle.h264_block.specs.Contexts.{within, initial_all, all_within, pairs_refusal, contexts_after}
 use Rattle.h264_contexts.specs.PairLaws.{pairs_fine}
-use Rattle.h264_block.specs.Entries.{FoundAt, PayloadRead, read_payload}
+use Rattle.h264_block.specs.Entries.{PayloadRead, read_payload}
 use Rattle.h264_reader.specs.declared.entries.Read.{Read}
 use Rattle.h264_reader.specs.declared.entries.Read.TheVariants as ofRead
 use Rattle.h264_reader.specs.EntriesAgree.{payload_read}
