@@ -9,7 +9,7 @@ slice_bounds-judge_line-end c = simp length-take (omega arith)
 
 pub returns : goal.returns
 returns c =
-    let at-start = c.before in
+    let at-start = c in
     let a = at-start.args in
     let l = take a.s.line.held a.line.now in (
       line_gave a.s.line.number _ l (take a.s.out a.out.now) _ a.tally.now _ a.finished _

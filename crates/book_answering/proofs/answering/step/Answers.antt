@@ -19,7 +19,7 @@ returns-then-b-ne10 c =
 
 pub returns : goal.returns
 returns c =
-    let at-start = c.before in
+    let at-start = c in
     let a = at-start.args in
     let l = take a.s.line.held a.line.now in
     let h = c.if1.false in

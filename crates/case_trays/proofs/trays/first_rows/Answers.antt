@@ -6,5 +6,5 @@ use Rattle.case_trays.proofs.trays.first_rows.Goals as goal
 -- `first_rows` meets its contract. Assumes nothing.
 pub slice_bounds-result-end : goal.slice_bounds-result-end
 slice_bounds-result-end c =
-    let a = c.before.args in
+    let a = c.args in
     sym (length-take-le a.n a.rows.now (omega arith))

@@ -9,6 +9,7 @@ use Rattle.hevc_residual.specs.declared.params.Params.{Params}
 use Rattle.hevc_residual.specs.Wanted.{area}
 use Rattle.hevc_tray.proofs.TrayCode.{Walking, walk_begins, walk_ends, next_accepted, next_room, next_checks, walk_refused, walk_on, read_number}
 use Rattle.hevc_tray_reader.proofs.entries.read_blocks.Goals as goal
+use Rattle.hevc_tray.proofs.TrayCode.{Walking, walk_begins, walk_ends, next_accepted, next_room, next_checks, walk_refused, walk_on, read_number}
 
 pub decision_table-table-requires : goal.decision_table-table-requires
 decision_table-table-requires c = tt
@@ -79,11 +80,6 @@ read_checked-r-requires c = (
 pub read_refusal-requires : goal.read_refusal-requires
 read_refusal-requires c = tt
 
-pub shape_of-levels-in_default : goal.shape_of-levels-in_default
-shape_of-levels-in_default c =
-    same_len_mid c.loop-i.at (c.loop-i.at + c.area_of.result - c.loop-i.at) c.loop-i.levels c.read_checked-r.new.block
-    c.read_checked-r.auto.1.1.1.1.1.1.0 ∙ c.loop-i.invariant.long
-
 pub shape_of-found-in_default : goal.shape_of-found-in_default
 shape_of-found-in_default c = c.loop-i.invariant.many
 
@@ -140,3 +136,8 @@ pub returns : goal.returns
 returns c =
     walk_ends c.args.bytes.now c.args.e c.args.contexts.now c.args.stats.now c.args.records.now c.args.levels.now c.args.found.now
     c.loop-i.i c.loop-i.at c.loop-i.state c.loop-i.contexts c.loop-i.stats c.loop-i.levels c.loop-i.found c.loop-i.invariant (omega arith) c.requires
+
+pub shape_of-levels-in_default : goal.shape_of-levels-in_default
+shape_of-levels-in_default c =
+    same_len_mid c.loop-i.at (c.loop-i.at + c.area_of.result - c.loop-i.at) c.loop-i.levels c.read_checked-r.new.block
+    c.read_checked-r.auto.block ∙ c.loop-i.invariant.long

@@ -10,10 +10,10 @@ slice_bounds-read_line-end c = simp length-take (omega arith)
 
 pub overflow_add-next : goal.overflow_add-next
 overflow_add-next c =
-    let at-start = c.before in
+    let at-start = c in
     omega (arith, at-start.requires.1)
 
 pub returns : goal.returns
 returns c =
-    let a = c.before.args in
+    let a = c.args in
     (line_added _ _ a.s.line.number (line_of (take a.s.line.held a.line.now) a.finished) _ c.read_line-e.ensures c.add_event-sizes.ensures, omega arith, omega arith)
