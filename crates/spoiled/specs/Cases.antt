@@ -3,7 +3,7 @@ use Rattle.std.specs.Prelude.{ℕ, ◌≡◌, refl, List, [], ◌∷◌, ◌++�
 use Rattle.text_room.specs.Decimal.{decimal_in, decimal}
 use Rattle.book_lines.specs.Lines.{last_line, lines_from, written}
 use Rattle.book_lines.specs.Form.{is_digit, all_digits, worth, length_field, spells_bytes, agrees, spelling_refusal, length_refusal, first_of, form_refusal}
-use Rattle.spoiled.specs.Salvage.{lower, lowered, uppers, lowered_line, fate, kept_of, salvaged_as, salvaged_line, salvaged, fate_words, report_line, salvage_report, kind_of, kind_line, count, counted, tallied, lines_word, tally_words}
+use Rattle.spoiled.specs.Salvage.{lower, lowered, uppers, lowered_line, fate, kept_of, salvaged_as, salvaged_line, salvaged, fate_words, report_line, salvage_report, kind_line, count, counted, tallied, lines_word, tally_words}
 
 -- `1 dropped 2`, behind which the second digit stands
 abbrev dropped_twenty : List ℕ

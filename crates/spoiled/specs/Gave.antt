@@ -1,7 +1,7 @@
 -- What a part of a spoiled book gave: what was put behind the book and behind the report, and what the tally then is. Assumes nothing.
-use Rattle.std.specs.Prelude.{ℕ, zero, suc, ◌+◌, ◌≡◌, refl, cond, List, [], ◌∷◌, ◌++◌, eqb}
+use Rattle.std.specs.Prelude.{ℕ, ◌+◌, ◌≡◌, List, [], ◌∷◌, ◌++◌}
 use Rattle.std.proofs.Common.{arith, sym, ap, ◌∙◌, append_assoc, append-nil}
-use Rattle.book_lines.specs.Lines.{Line, program}
+use Rattle.book_lines.specs.Lines.{Line}
 use Rattle.book_lines.specs.Steps.{Reading, begun, fed_state, fed_out, end_out, pieces_out, joined}
 use Rattle.spoiled.specs.declared.tally.Tally.{Tally}
 use Rattle.spoiled.specs.Salvage.{salvaged_line, salvaged, report_line, salvage_report, kind_line, count, counted, no_lines, tallied}

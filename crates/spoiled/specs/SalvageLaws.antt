@@ -1,16 +1,15 @@
 -- Laws of salvage. What comes out is a sound book; salvaged again it is the same, every line kept; a sound book comes out as it is; each line that
 -- comes out is a line that went in, lowered, in order, none twice, and each that does not fails the form even lowered. Assumes nothing.
-use Rattle.std.specs.Prelude.{ℕ, zero, suc, ◌+◌, ◌≤◌, ◌<◌, ◌≡◌, refl, Bool, true, false, ◌&&◌, cond, ◌⊎◌, leb, eqb, length, take}
-use Rattle.std.proofs.Common.{arith, sym, subst, ◌∙◌, ⊎_elim, length-append, ne_eqb, eqb-true}
+use Rattle.std.specs.Prelude.{ℕ, zero, suc, ◌+◌, ◌≤◌, ◌<◌, ◌≡◌, refl, Bool, true, false, cond, eqb, length}
+use Rattle.std.proofs.Common.{arith, sym, subst, ◌∙◌, ⊎_elim, length-append, eqb-true}
 use Rattle.std.proofs.Math.Path.{ap}
 use mathlib.Core.List.{List, [], ◌∷◌, ◌++◌, append_assoc, append-nil}
-use Rattle.text_fields.specs.Spelled.{within}
 use Rattle.text_fields.specs.SpelledLaws.{both}
 use Rattle.text_room.specs.Decimal.{decimal}
-use Rattle.book_lines.specs.Lines.{Line, ended, line_feed, last_line, lines_from, lines, written, program}
+use Rattle.book_lines.specs.Lines.{Line, line_feed, last_line, lines_from, lines, written, program}
 use Rattle.book_lines.specs.Steps.{Reading, begun, end_out, pieces_out, joined}
 use Rattle.book_lines.specs.Form.{most_digits, is_digit, all_digits, form_refusal}
-use Rattle.spoiled.specs.Salvage.{is_upper, lower, lowered, uppers, lowered_line, fate, kept_of, salvaged_as, salvaged_line, salvaged, kept_word, fate_words, report_line, salvage_report, kind_of, kind_line, count, counted, no_lines, all, tallied}
+use Rattle.spoiled.specs.Salvage.{is_upper, lower, lowered, uppers, lowered_line, fate, kept_of, salvaged_as, salvaged_line, salvaged, kept_word, fate_words, report_line, salvage_report, kind_of, kind_line, count, counted, no_lines, tallied}
 use Rattle.book_lines.specs.LineLaws.{Clips, lines_end, lines_more, cut}
 use Rattle.book_lines.specs.FormLaws.{form_long, clips_by, and_left, and_right, Keeps, keeps, keeps_digits, keeps_finished, keeps_ended, digit_cases, digits_line}
 

@@ -3,4 +3,4 @@ use native.Mathlib.Omega.{arith}
 use Rattle.book.proofs.end.Goals as goal
 
 pub slice_bounds-written-end-2 : goal.slice_bounds-written-end-2
-slice_bounds-written-end-2 c = simp length-take (omega arith)
+slice_bounds-written-end-2 g c = simp length-take (omega arith)

@@ -5,16 +5,16 @@ use borrow.Author.Rules.{rules}
 use Rattle.morning.proofs.read_book.Goals as goal
 
 pub slice_bounds-turns-end : goal.slice_bounds-turns-end
-slice_bounds-turns-end c = c.buffer.ensures
+slice_bounds-turns-end g c = c.buffer.ensures
 
 pub turns-requires : goal.turns-requires
-turns-requires c = (omega (arith, c.buffer.ensures), length-replicate {A = ℕ} 8469 0)
+turns-requires g c = (omega (arith, c.buffer.ensures), length-replicate {A = ℕ} 8469 0)
 
 pub slice_bounds-finish-end : goal.slice_bounds-finish-end
-slice_bounds-finish-end c = omega (arith, c.turns.auto.1.1.0, length-replicate {A = ℕ} 8469 0)
+slice_bounds-finish-end g c = omega (arith, c.turns.auto.1.1.0, length-replicate {A = ℕ} 8469 0)
 
 pub finish-t-requires : goal.finish-t-requires
-finish-t-requires c =
+finish-t-requires g c =
     let x = c.turns.ensures in
     (omega (arith, x.0, c.turns.auto.1.1.0, length-replicate {A = ℕ} 8469 0), omega (arith, x.2))
 

@@ -5,7 +5,7 @@ use Rattle.morning.proofs.turns.Given as goal
 
 -- `turns` meets its contract. Assumes nothing.
 abbrev pub invariant-loop-left : goal.invariant-loop-left
-invariant-loop-left l = (l.sums32.line.held ≤ 8469) × (1 ≤ l.sums32.line.number) × (l.sums32.line.number + 4096 * l.greatests32 ≤ 9223372036854775809) × (length l.initial.s ≡ length l.err) × (length l.initial.left ≡ length l.alloc)
+invariant-loop-left g l = (l.s.line.held ≤ 8469) × (1 ≤ l.s.line.number) × (l.s.line.number + 4096 * l.left ≤ 9223372036854775809) × (length l.piece ≡ length l.initial.piece) × (length l.line ≡ length l.initial.line)
 
 abbrev pub decreases-loop-left : goal.decreases-loop-left
-decreases-loop-left l = l.greatests32
+decreases-loop-left g l = l.left

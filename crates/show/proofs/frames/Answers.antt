@@ -3,10 +3,10 @@ use Prim.Native.Nat.{◌-◌}
 use Rattle.show.proofs.frames.Goals as goal
 
 pub loop-from-init : goal.loop-from-init
-loop-from-init c = omega arith
+loop-from-init g c = omega arith
 
 pub loop-from-smaller : goal.loop-from-smaller
-loop-from-smaller c = omega arith
+loop-from-smaller g c = omega arith
 
 pub loop-from-preserved : goal.loop-from-preserved
-loop-from-preserved c = omega arith
+loop-from-preserved g c = omega arith

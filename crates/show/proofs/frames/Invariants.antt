@@ -4,7 +4,7 @@ use Rattle.show.proofs.frames.Given as goal
 
 -- `frames` meets its contract. Assumes nothing.
 abbrev pub invariant-loop-from : goal.invariant-loop-from
-invariant-loop-from l = l.initial.from ≤ length l.out + 1
+invariant-loop-from g l = l.from ≤ length l.text + 1
 
 abbrev pub decreases-loop-from : goal.decreases-loop-from
-decreases-loop-from l = length l.out + 1 - l.initial.from
+decreases-loop-from g l = length l.text + 1 - l.from

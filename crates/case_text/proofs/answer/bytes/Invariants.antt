@@ -4,7 +4,7 @@ use Rattle.case_text.proofs.answer.bytes.Given as goal
 
 -- `bytes` meets its contract. Assumes nothing.
 abbrev pub invariant-loop-i : goal.invariant-loop-i
-invariant-loop-i l = l.to ≤ length l.at
+invariant-loop-i g l = l.i ≤ length l.s
 
 abbrev pub decreases-loop-i : goal.decreases-loop-i
-decreases-loop-i l = length l.at - l.to
+decreases-loop-i g l = length l.s - l.i

@@ -4,7 +4,7 @@ use Rattle.case_text.proofs.answer.form.Given as goal
 
 -- `form` meets its contract. Assumes nothing.
 abbrev pub invariant-loop-i : goal.invariant-loop-i
-invariant-loop-i l = Unit {0}
+invariant-loop-i g l = Unit {0}
 
 abbrev pub decreases-loop-i : goal.decreases-loop-i
-decreases-loop-i l = length l.at - l.to
+decreases-loop-i g l = length l.f - l.i

@@ -3,7 +3,7 @@ use Rattle.case_trays.proofs.trays.found.Given as goal
 
 -- `found` meets its contract. Assumes nothing.
 abbrev pub invariant-loop-i : goal.invariant-loop-i
-invariant-loop-i l = i ≤ 300
+invariant-loop-i g l = l.i ≤ 300
 
 abbrev pub decreases-loop-i : goal.decreases-loop-i
-decreases-loop-i l = 300 - i
+decreases-loop-i g l = 300 - l.i

@@ -3,7 +3,7 @@ use Rattle.morning.proofs.table.spaces.Given as goal
 
 -- `spaces` meets its contract. Assumes nothing.
 abbrev pub invariant-loop-i : goal.invariant-loop-i
-invariant-loop-i l = l.i ≤ l.out
+invariant-loop-i g l = l.i ≤ l.n
 
 abbrev pub decreases-loop-i : goal.decreases-loop-i
-decreases-loop-i l = l.out - l.i
+decreases-loop-i g l = l.n - l.i

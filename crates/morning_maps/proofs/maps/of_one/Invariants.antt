@@ -3,7 +3,7 @@ use Rattle.morning_maps.proofs.maps.of_one.Given as goal
 
 -- `of_one` meets its contract. Assumes nothing.
 abbrev pub invariant-loop-row : goal.invariant-loop-row
-invariant-loop-row l = row ≤ l.t
+invariant-loop-row g l = l.row ≤ l.n
 
 abbrev pub decreases-loop-row : goal.decreases-loop-row
-decreases-loop-row l = l.t - row
+decreases-loop-row g l = l.n - l.row

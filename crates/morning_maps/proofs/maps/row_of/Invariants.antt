@@ -3,7 +3,7 @@ use Rattle.morning_maps.proofs.maps.row_of.Given as goal
 
 -- `row_of` meets its contract. Assumes nothing.
 abbrev pub invariant-loop-i : goal.invariant-loop-i
-invariant-loop-i l = l.initial.i ≤ l.row
+invariant-loop-i g l = l.i ≤ l.n
 
 abbrev pub decreases-loop-i : goal.decreases-loop-i
-decreases-loop-i l = l.row - l.initial.i
+decreases-loop-i g l = l.n - l.i

@@ -3,7 +3,7 @@ use Prim.Native.Nat.{◌-◌}
 use Rattle.show.proofs.h264.by_place.Goals as goal
 
 pub bounds-levels-i : goal.bounds-levels-i
-bounds-levels-i c = omega arith
+bounds-levels-i g c = omega arith
 
 pub loop-i-preserved : goal.loop-i-preserved
-loop-i-preserved c = omega arith
+loop-i-preserved g c = omega arith

@@ -4,10 +4,8 @@ use Rattle.spoiled.proofs.fate.lower_and_look.Goals as goal
 
 pub slice_bounds-refusal-end-2 : goal.slice_bounds-refusal-end-2
 slice_bounds-refusal-end-2 c =
-    let at-start = c.before in
-    let a = at-start.args in front_length a.line.now _ a.held (omega arith) c.lower-line.ensures.0
+    let a = c.args in front_length a.line.now _ a.held (omega arith) c.lower_line-turned.ensures.0
 
 pub returns : goal.returns
 returns c =
-    let at-start = c.before in
-    let a = at-start.args in let m = lowered_front a.line.now _ a.held (omega arith) c.lower-line.ensures.0 in (fate_is _ _ a.finished _ m c.refusal-number.ensures, c.lower-line.ensures.1, m)
+    let a = c.args in let m = lowered_front a.line.now _ a.held (omega arith) c.lower_line-turned.ensures.0 in (fate_is _ _ a.finished _ m c.refusal-number.ensures, c.lower_line-turned.ensures.1, m)

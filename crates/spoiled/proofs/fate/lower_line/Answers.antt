@@ -1,4 +1,3 @@
-use Prim.Native.Nat.{◌-◌}
 use native.Mathlib.Omega.{arith}
 use borrow.Author.Rules.{rules}
 use Rattle.spoiled.specs.CodeLaws.{lowering_begun, lowering_more, lowering_same, lowering_done}

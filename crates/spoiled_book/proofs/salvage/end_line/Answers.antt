@@ -11,8 +11,7 @@ put_salvaged-b-requires c = simp length-take (omega arith)
 
 pub returns : goal.returns
 returns c =
-    let a = c.args in
-    (
+    let a = c.args in (
       line_gave a.s.line.number _ _ (take a.s.line.held a.line.now) _ (take a.s.book a.book.now) (take a.s.report a.report.now) _ _
           a.finished a.s.tally _ c.lower_and_look-fate.ensures.0 c.lower_and_look-fate.ensures.1 c.lower_and_look-fate.ensures.2 c.put_salvaged-b.ensures.0 c.put_report-p.ensures.0 c.count_line-tally.ensures.0,
       omega arith,
