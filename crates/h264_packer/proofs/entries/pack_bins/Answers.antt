@@ -4,17 +4,6 @@ use Rattle.h264_packer.specs.EntryCode.{refused_first, refused_list, packable, i
 use Rattle.h264_packer.specs.Promise.{promised}
 use Rattle.h264_packer.proofs.entries.pack_bins.Goals as goal
 
-pub returns-then-a-ne0 : goal.returns-then-a-ne0
-returns-then-a-ne0 c =
-    let a = c.args in
-    promised a.contexts.now a.list.now a.room.now (packing.Refused c.contexts_refusal-a.result) a.room.now (refused_first a.contexts.now a.list.now a.room.now c.contexts_refusal-a.result c.contexts_refusal-a.ensures c.if-a-ne0.true)
-
-pub returns-in_default : goal.returns-in_default
-returns-in_default c =
-    let a = c.args in
-    let pass = sym c.if-a-ne0.false ∙ c.contexts_refusal-a.ensures in
-    promised a.contexts.now a.list.now a.room.now (packing.Refused 13) a.room.now (refused_list a.contexts.now a.list.now a.room.now pass c.read_bins-r.result c.read_bins-r.new.block c.read_bins-r.ensures _ c.in_default.is)
-
 pub pack_list-requires : goal.pack_list-requires
 pack_list-requires c =
     let a = c.args in
