@@ -5,33 +5,50 @@ use Rattle.figures.specs.Agree.{held}
 use Rattle.figures.specs.OutLaws.{place_in, at_refused, at_done}
 use Rattle.figures_read.proofs.out.at_place.Goals as goal
 
-passed : (c : goal.Else-n-ne0) → let a = c.args in 0 ≡ place_refusal a.totals a.place
-passed c = sym c.if-n-ne0.false ∙ c.place_refusal-n.ensures
-
 pub offset_bounds-blocks-place : goal.offset_bounds-blocks-place
-offset_bounds-blocks-place c = let a = c.args in let h = place_in a.totals a.place (passed c) in omega arith
+offset_bounds-blocks-place c =
+    let a = c.args in
+    let passed = sym c.if-n-ne0.false ∙ c.place_refusal-n.ensures in
+    let h = place_in a.totals a.place passed in omega arith
 
 pub bounds-blocks-place : goal.bounds-blocks-place
-bounds-blocks-place c = let a = c.args in let h = place_in a.totals a.place (passed c) in omega arith
+bounds-blocks-place c =
+    let a = c.args in
+    let passed = sym c.if-n-ne0.false ∙ c.place_refusal-n.ensures in
+    let h = place_in a.totals a.place passed in omega arith
 
 pub offset_bounds-greatests-place : goal.offset_bounds-greatests-place
-offset_bounds-greatests-place c = let a = c.args in let h = place_in a.totals a.place (passed c) in omega arith
+offset_bounds-greatests-place c =
+    let a = c.args in
+    let passed = sym c.if-n-ne0.false ∙ c.place_refusal-n.ensures in
+    let h = place_in a.totals a.place passed in omega arith
 
 pub bounds-greatests-place : goal.bounds-greatests-place
-bounds-greatests-place c = let a = c.args in let h = place_in a.totals a.place (passed c) in omega arith
+bounds-greatests-place c =
+    let a = c.args in
+    let passed = sym c.if-n-ne0.false ∙ c.place_refusal-n.ensures in
+    let h = place_in a.totals a.place passed in omega arith
 
 pub offset_bounds-sums-place : goal.offset_bounds-sums-place
-offset_bounds-sums-place c = let a = c.args in let h = place_in a.totals a.place (passed c) in omega arith
+offset_bounds-sums-place c =
+    let a = c.args in
+    let passed = sym c.if-n-ne0.false ∙ c.place_refusal-n.ensures in
+    let h = place_in a.totals a.place passed in omega arith
 
 pub bounds-sums-place : goal.bounds-sums-place
-bounds-sums-place c = let a = c.args in let h = place_in a.totals a.place (passed c) in omega arith
+bounds-sums-place c =
+    let a = c.args in
+    let passed = sym c.if-n-ne0.false ∙ c.place_refusal-n.ensures in
+    let h = place_in a.totals a.place passed in omega arith
 
 pub returns : goal.returns
 returns c =
     let a = c.args in
-    λ k. at_done (held a.totals a.blocks.now a.sums.now a.greatests.now k) a.place (passed c)
+    let passed = sym c.if-n-ne0.false ∙ c.place_refusal-n.ensures in
+    λ k. at_done (held a.totals a.blocks.now a.sums.now a.greatests.now k) a.place passed
 
 pub returns-then-n-ne0 : goal.returns-then-n-ne0
 returns-then-n-ne0 c =
     let a = c.args in
     λ k. at_refused (held a.totals a.blocks.now a.sums.now a.greatests.now k) a.place c.place_refusal-n.result c.place_refusal-n.ensures c.if-n-ne0.true
+

@@ -6,12 +6,6 @@ use Rattle.hevc_reader.specs.EntriesLaws.{checks_passed}
 use Rattle.hevc_differ.proofs.JudgementLaws.{all_past, all_place, judged_unread, judged_unreadable, judged_past, judged_place, place_here, place_never}
 use Rattle.hevc_differ.proofs.entries.judge.Goals as goal
 
-passed : (k : goal.After-reached-r) → let a = k.args in 0 ≡ payload_checks a.first.now a.e a.contexts.now a.stats.now a.p a.block.now
-passed k = sym k.if-n-ne0.false ∙ k.payload_checks-n.ensures
-
-second : (k : goal.After-reached-r) → 0 ≡ payload_refusal k.args.second.now
-second k = sym k.if-m-ne0.false ∙ k.payload_refusal-m.ensures
-
 pub returns-then-n-ne0 : goal.returns-then-n-ne0
 returns-then-n-ne0 c =
     let a = c.args in
@@ -26,20 +20,27 @@ returns-then-m-ne0 c =
 pub returns-then-r-ne0 : goal.returns-then-r-ne0
 returns-then-r-ne0 c =
     let a = c.args in
-    judged_past a.first.now a.second.now a.e a.contexts.now a.stats.now a.p a.block.now (passed c) (second c) c.reached-r.result.past
+    let passed = sym c.if-n-ne0.false ∙ c.payload_checks-n.ensures in
+    let second = sym c.if-m-ne0.false ∙ c.payload_refusal-m.ensures in
+    judged_past a.first.now a.second.now a.e a.contexts.now a.stats.now a.p a.block.now passed second c.reached-r.result.past
     (all_past a.first.now a.second.now a.e a.contexts.now a.stats.now a.p a.block.now c.reached-r.result c.reached-r.ensures) c.if-r-ne0.true
 
 pub first_difference-d-requires : goal.first_difference-d-requires
 first_difference-d-requires c =
-    let a = c.args in (
-      (checks_passed a.first.now a.e a.contexts.now a.stats.now a.p a.block.now (passed c)).short,
-      payload_passed a.second.now (second c),
+    let a = c.args in
+    let passed = sym c.if-n-ne0.false ∙ c.payload_checks-n.ensures in
+    let second = sym c.if-m-ne0.false ∙ c.payload_refusal-m.ensures in
+    (
+      (checks_passed a.first.now a.e a.contexts.now a.stats.now a.p a.block.now passed).short,
+      payload_passed a.second.now second,
     )
 
 pub returns-then-d-place : goal.returns-then-d-place
 returns-then-d-place c =
     let a = c.args in
-    judged_place a.first.now a.second.now a.e a.contexts.now a.stats.now a.p a.block.now (passed c) (second c)
+    let passed = sym c.if-n-ne0.false ∙ c.payload_checks-n.ensures in
+    let second = sym c.if-m-ne0.false ∙ c.payload_refusal-m.ensures in
+    judged_place a.first.now a.second.now a.e a.contexts.now a.stats.now a.p a.block.now passed second
     (sym c.if-r-ne0.false ∙ all_past a.first.now a.second.now a.e a.contexts.now a.stats.now a.p a.block.now c.reached-r.result c.reached-r.ensures)
     c.first_difference-d.result c.reached-r.result.state.position.0 c.first_difference-d.ensures
     (all_place a.first.now a.second.now a.e a.contexts.now a.stats.now a.p a.block.now c.reached-r.result c.reached-r.ensures)
@@ -48,8 +49,11 @@ returns-then-d-place c =
 pub returns : goal.returns
 returns c =
     let a = c.args in
-    judged_place a.first.now a.second.now a.e a.contexts.now a.stats.now a.p a.block.now (passed c) (second c)
+    let passed = sym c.if-n-ne0.false ∙ c.payload_checks-n.ensures in
+    let second = sym c.if-m-ne0.false ∙ c.payload_refusal-m.ensures in
+    judged_place a.first.now a.second.now a.e a.contexts.now a.stats.now a.p a.block.now passed second
     (sym c.if-r-ne0.false ∙ all_past a.first.now a.second.now a.e a.contexts.now a.stats.now a.p a.block.now c.reached-r.result c.reached-r.ensures)
     c.first_difference-d.result c.reached-r.result.state.position.0 c.first_difference-d.ensures
     (all_place a.first.now a.second.now a.e a.contexts.now a.stats.now a.p a.block.now c.reached-r.result c.reached-r.ensures)
     _ (place_never c.first_difference-d.result c.reached-r.result.state.position.0 c.if-d-place.false)
+

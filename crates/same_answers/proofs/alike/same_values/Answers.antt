@@ -1,6 +1,6 @@
-use Prim.Native.Nat.{◌-◌}
 use mathlib.Core.Path.{◌≡◌, refl, ap, sym, ◌∙◌}
 use mathlib.Core.Bool.{true≢false}
+use Rattle.std.proofs.Common.{rules}
 use native.Mathlib.Omega.{arith}
 use lib.ListN.{length, get_or}
 use lib.IntN.{ℤ, pos}
@@ -30,7 +30,7 @@ loop-i-preserved c =
     let a = c.args in (
       omega (arith, c.loop-i-test.true),
       below_more (λ k. get_or a.a.now k (pos 0) ≡ get_or a.b.now k (pos 0)) c.loop-i.i c.loop-i.invariant.1
-          (bits_same _ _ (record { sfits = c.t10-1.given }) (record { sfits = c.t13-1.given }) c.if-a-i.false),
+          (bits_same _ _ (record { sfits = search rules }) (record { sfits = search rules }) c.if-a-i.false),
     )
 
 pub returns : goal.returns
