@@ -1,6 +1,5 @@
 use native.Mathlib.Omega.{arith}
 use borrow.Author.Rules.{rules}
-use Prim.Native.Nat.{◌-◌}
 use mathlib.Core.Path.{refl}
 use Rattle.book_answers.specs.CodeLaws.{feeding_begun, feeding_more, feeding_state, feeding_gave}
 use Rattle.book_answering.proofs.answering.feed.Goals as goal

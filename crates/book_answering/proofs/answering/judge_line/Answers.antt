@@ -10,12 +10,12 @@ returns-then-n-ne0 c = let a = c.args in judged_form a.line.now a.finished _ c.r
 pub slice_bounds-bytes-end : goal.slice_bounds-bytes-end
 slice_bounds-bytes-end c =
     let a = c.args in
-    front_room a.line.now a.finished _ c.refusal-n.ensures c.if-n-ne0.false _ _ (length-replicate {A = ℕ} 4234 0) c.hex_bytes.ensures.1
+    front_room a.line.now a.finished _ c.refusal-n.ensures c.if-n-ne0.false _ _ (length-replicate {A = ℕ} 4234 0) c.hex_bytes.ensures.out_after
 
 pub slice_bounds-judge-end : goal.slice_bounds-judge-end
 slice_bounds-judge-end c =
     let a = c.args in
-    front_count a.line.now a.finished _ c.refusal-n.ensures c.if-n-ne0.false _ _ (length-replicate {A = ℕ} 4234 0) c.hex_bytes.ensures.1
+    front_count a.line.now a.finished _ c.refusal-n.ensures c.if-n-ne0.false _ _ (length-replicate {A = ℕ} 4234 0) c.hex_bytes.ensures.out_after
 
 pub judge-requires : goal.judge-requires
 judge-requires c =
@@ -25,7 +25,7 @@ judge-requires c =
     omega (
       arith,
       front_long a.line.now a.finished _ r z,
-      front_count a.line.now a.finished _ r z _ _ (length-replicate {A = ℕ} 4234 0) c.hex_bytes.ensures.1,
+      front_count a.line.now a.finished _ r z _ _ (length-replicate {A = ℕ} 4234 0) c.hex_bytes.ensures.out_after,
     )
 
 pub returns : goal.returns
@@ -34,4 +34,4 @@ returns c =
     let r = c.refusal-n.ensures in
     let z = c.if-n-ne0.false in
     judged_frame a.line.now a.finished _ r z _ _
-    (front_bytes a.line.now a.finished _ r z _ _ (length-replicate {A = ℕ} 4234 0) c.hex_bytes.ensures.1) c.judge.ensures
+    (front_bytes a.line.now a.finished _ r z _ _ (length-replicate {A = ℕ} 4234 0) c.hex_bytes.ensures.out_after) c.judge.ensures

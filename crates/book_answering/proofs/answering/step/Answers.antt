@@ -22,7 +22,7 @@ returns c =
     let at-start = c in
     let a = at-start.args in
     let l = take a.s.line.held a.line.now in
-    let h = c.if1.false in
+    let h = c.if-b-ne10.false in
     let e = c.end_line.ensures in (
       ended_state a.s.line.number a.b l h _ _ _ e.1 e.2,
       gave_as (end_out_lem a.s.line.number a.b l h) e.0,
