@@ -40,9 +40,9 @@ magnitude_few ones bigs v =
 levels_few : {n : ℕ} (ks : List ℕ) (ones bigs : ℕ) (l : List ℤ) → Each {B = List ℤ} Free (λ z m. m ≤ n + 46 * length ks) n (levels_s ks ones bigs l)
 unfolding levels_s
 levels_few [] ones bigs l = each_done (omega arith)
-levels_few (k ∷ ks) ones bigs l =
+levels_few {n = n} (k ∷ ks) ones bigs l =
     each_bind (magnitude_few ones bigs _) (λ v m u. each_bypass (λ neg. each_if (in_range 15 neg (suc v))
-    (λ q. each_as (levels_few ks _ _ (set l k (signed neg (suc v)))) (λ z j h. omega (arith, h, u)))
+    (λ q. each_as (levels_few {n = suc m} ks _ _ (set l k (signed neg (suc v)))) (λ z j h. omega (arith, h, u)))
     (λ q. each_stop tt)))
 
 block_few : Each {B = List ℤ} Free (λ l m. m ≤ bins_most) 0 block
