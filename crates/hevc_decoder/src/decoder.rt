@@ -23,7 +23,7 @@ pub fn residual_coding<'a>(
     entries::residual_coding(decoder.payload, decoder.state, contexts, stats, p, block)
 }
 
-// One block through a decoder made for it: whoever calls this needs no walk.
+// One block through a decoder made for it: whoever calls this needs to know no decoder.
 pub fn block_through(
     payload: &[u8],
     state: Engine,

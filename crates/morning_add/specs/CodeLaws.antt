@@ -1,8 +1,8 @@
 -- Laws as the code meets them: a frame, a line, what it adds to one size and to four, a piece. Assumes nothing.
-use Rattle.std.specs.Prelude.{ℕ, zero, suc, ◌+◌, ◌-◌, ◌≤◌, ◌<◌, min, ◌≡◌, Bool, true, false, cond, ◌&&◌, ◌||◌, leb, length, take, get_or, set, ℤ}
+use Rattle.std.specs.Prelude.{ℕ, ◌+◌, ◌-◌, ◌≤◌, ◌<◌, min, ◌≡◌, Bool, true, false, cond, ◌&&◌, ◌||◌, leb, length, take, get_or, set, ℤ}
 use Rattle.std.proofs.Common.{arith, sym, ◌∙◌, le-leb, eq-eqb, ne_eqb}
 use Rattle.std.proofs.Math.Path.{refl, ap}
-use mathlib.Core.List.{List, [], ◌∷◌, ◌++◌}
+use mathlib.Core.List.{List, []}
 use Rattle.std.proofs.Math.Dec.{eqb}
 use Rattle.text_fields.specs.Spelled.{octets_of}
 use Rattle.book_lines.specs.declared.pending.Pending.{Pending}
@@ -17,8 +17,8 @@ use Rattle.frame.specs.Verdict.{verdict, levels_of}
 use Rattle.book_answers.specs.CodeLaws.{judged_form, judged_frame}
 use Rattle.figures.specs.declared.add.Totals.{Totals}
 use Rattle.figures.specs.declared.add.Added.{Added}
-use Rattle.counting.specs.Count.{gather, updated}
-use Rattle.figures.specs.Figures.{Event, block, refusal, Figures, each, figures_of}
+use Rattle.counting.specs.Count.{gather}
+use Rattle.figures.specs.Figures.{Event, block, refusal, Figures, figures_of}
 use Rattle.figures.specs.Entries.{After, unless_refused, begin_refusal, begin, begun, add, add_block, add_refusal, number_refusal, with_refusal}
 use Rattle.figures.specs.Agree.{held, after_of}
 use Rattle.morning_add.specs.declared.event.LineRead.{LineRead}

@@ -1,7 +1,7 @@
 -- Laws of a book's figures: however it is cut; each size's are figures' own sum of the book's events. Assumes nothing.
 use Rattle.std.specs.Prelude.{ℕ, ◌<◌, ◌≡◌, length}
 use Rattle.std.proofs.Math.Path.{refl, ap}
-use Rattle.std.proofs.Common.{sym, ◌∙◌}
+use Rattle.std.proofs.Common.{◌∙◌}
 use mathlib.Core.List.{List, [], ◌∷◌, ◌++◌}
 use Rattle.text_fields.specs.Spelled.{octets_of}
 use Rattle.book_lines.specs.Lines.{Line}

@@ -5,7 +5,7 @@ use Rattle.book_lines.specs.Lines.{Line, program}
 use Rattle.frame.specs.declared.judge.Verdict.{Verdict}
 use Rattle.frame.specs.declared.judge.Verdict.TheVariants as ofVerdict
 use Rattle.frame.specs.Frame.{byte_of}
-use Rattle.frame.specs.Verdict.{verdict, levels_of}
+use Rattle.frame.specs.Verdict.{levels_of}
 use Rattle.book_answers.specs.Answers.{judged}
 use Rattle.figures.specs.Figures.{Event, block, refusal, Figures}
 use Rattle.figures.specs.Entries.{begun, add}

@@ -51,4 +51,3 @@ pub returns-then-n-ne0 : goal.returns-then-n-ne0
 returns-then-n-ne0 c =
     let a = c.args in
     λ k. at_refused (held a.totals a.blocks.now a.sums.now a.greatests.now k) a.place c.place_refusal-n.result c.place_refusal-n.ensures c.if-n-ne0.true
-

@@ -26,4 +26,3 @@ pub returns-then-n-ne0 : goal.returns-then-n-ne0
 returns-then-n-ne0 c =
     let a = c.args in
     λ b s g. tally_no (held a.totals b s g a.tallies.now) a.number c.number_refusal-n.result c.number_refusal-n.ensures c.if-n-ne0.true
-

@@ -29,8 +29,7 @@ pub first_difference-d-requires : goal.first_difference-d-requires
 first_difference-d-requires c =
     let a = c.args in
     let passed = sym c.if-n-ne0.false ∙ c.payload_checks-n.ensures in
-    let second = sym c.if-m-ne0.false ∙ c.payload_refusal-m.ensures in
-    (
+    let second = sym c.if-m-ne0.false ∙ c.payload_refusal-m.ensures in (
       (checks_passed a.first.now a.e a.contexts.now a.stats.now a.p a.block.now passed).short,
       payload_passed a.second.now second,
     )
@@ -56,4 +55,3 @@ returns c =
     c.first_difference-d.result c.reached-r.result.state.position.0 c.first_difference-d.ensures
     (all_place a.first.now a.second.now a.e a.contexts.now a.stats.now a.p a.block.now c.reached-r.result c.reached-r.ensures)
     _ (place_never c.first_difference-d.result c.reached-r.result.state.position.0 c.if-d-place.false)
-

@@ -2,7 +2,6 @@ use mathlib.Core.Path.{sym, ◌∙◌}
 use Rattle.hevc_plain_checks.specs.Record.{record_first, record_second, record_made}
 use Rattle.hevc_plain_checks.proofs.record.plain_params.Goals as goal
 
-
 pub returns-then-a-ne0 : goal.returns-then-a-ne0
 returns-then-a-ne0 c =
     let a = c.args in

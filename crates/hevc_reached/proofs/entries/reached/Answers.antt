@@ -43,4 +43,3 @@ returns c =
     (c.read_to_end-x.ensures ∙ ap (λ (x : Interval). (state_of (from false a.bytes.now (residual a.p a.stats.now) x a.contexts.now)).interval) c.«open».ensures)
     passed0 c.settle-state.result c.settle-fresh.result c.settle-state.ensures
     (c.settle-fresh.ensures ∙ ap (λ (x : Engine). settled a.bytes.now x c.read_to_end-x.result) c.unmarked.ensures)
-

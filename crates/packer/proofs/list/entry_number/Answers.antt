@@ -7,4 +7,3 @@ overflow_cast-low c = omega (arith, c.type_inv.list c.args.i)
 
 pub overflow_cast-high : goal.overflow_cast-high
 overflow_cast-high c = omega (arith, c.type_inv.list (c.args.i + 1))
-
