@@ -1,9 +1,8 @@
 -- THE theorem of the press and the book: for every drawing that is pressed, the line passes the book's form, and the book answers it by ok, the greatest
 -- magnitude of its levels, and 0. Assumes nothing.
-use Rattle.std.specs.Prelude.{ℕ, ◌≡◌, refl, List, [], ◌∷◌, ◌++◌, take, ℤ}
-use Rattle.std.proofs.Common.{sym, ◌∙◌}
+use Rattle.std.specs.Prelude.{ℕ, ◌≡◌, List, [], ◌∷◌, ◌++◌, take, ℤ}
+use Rattle.std.proofs.Common.{◌∙◌}
 use Rattle.std.proofs.Math.Path.{ap}
-use Rattle.text_fields.specs.Spelled.{octets_of}
 use Rattle.text_room.specs.Decimal.{decimal}
 use Rattle.cabac.specs.Numbers.{accepted}
 use Rattle.hevc_residual.specs.Wanted.{area}

@@ -1,5 +1,5 @@
 -- The theorems of the press speak of something: a drawing that is pressed, by computation. Level 1 at (0,0) of a 4x4 luma block, each initial value 154, QP 26.
-use Rattle.std.specs.Prelude.{ℕ, ◌≤◌, ◌≡◌, refl, Bool, false, cond, List, [], ◌∷◌, ◌++◌, ltb, ℤ, pos, length, take, drop, replicate}
+use Rattle.std.specs.Prelude.{ℕ, ◌≤◌, ◌≡◌, refl, Bool, false, cond, List, [], ◌∷◌, ◌++◌, ℤ, pos, length, take, drop, replicate}
 use Rattle.std.proofs.Common.{arith, ◌∙◌, le-ltb}
 use Rattle.std.proofs.Math.Path.{ap}
 use Rattle.std.specs.Int.Count.{count_leading_zeros}
@@ -24,7 +24,6 @@ use Rattle.packing.specs.Pack.{kind_of, entries_of, encoded, ctx_after, packed_b
 use Rattle.packing.specs.Entries.{BinsPacked, pack_into_by, pack_into, pack_list, pack_tree}
 use Rattle.hevc_packer.specs.Entries.{pack_bins}
 use Rattle.frame.specs.Frame.{params_of, flags_refusal}
-use Rattle.frame.specs.declared.judge.Verdict.{Verdict}
 use Rattle.frame.specs.declared.judge.Verdict.TheVariants as ofVerdict
 use Rattle.frame.specs.Verdict.{verdict}
 use Rattle.press_frame.specs.Pressed.{frame_of, handed_refusal, no_statistics, contexts_of, framed, listed, pressed_by, pressed}

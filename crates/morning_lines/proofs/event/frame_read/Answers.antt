@@ -5,7 +5,7 @@ pub returns-in-Ok : goal.returns-in-Ok
 returns-in-Ok c =
     let a = c.args in
     let r = c.read_frame-v.ensures in
-    frame_ok a.bytes.now _ _ r.0 _ _ _ c.type_size.ensures r.1 c.in-Ok.is
+    frame_ok a.bytes.now _ _ r.0 _ _ _ c.size_of-log2.ensures r.1 c.in-Ok.is
 
 pub returns-in-No : goal.returns-in-No
 returns-in-No c =

@@ -15,7 +15,7 @@ slice_bounds-bytes-end c =
     let a = c.args in
     let r = c.refusal-n.ensures in
     let z = c.if-n-ne0.false in
-    let w = c.hex_bytes.ensures.1 in
+    let w = c.hex_bytes.ensures.out_after in
     let room = length-replicate {A = ℕ} 4234 0 in
     front_room a.line.now a.finished _ r z _ _ room w
 
@@ -24,7 +24,7 @@ slice_bounds-frame_read-end c =
     let a = c.args in
     let r = c.refusal-n.ensures in
     let z = c.if-n-ne0.false in
-    let w = c.hex_bytes.ensures.1 in
+    let w = c.hex_bytes.ensures.out_after in
     let room = length-replicate {A = ℕ} 4234 0 in
     front_count a.line.now a.finished _ r z _ _ room w
 
@@ -33,7 +33,7 @@ frame_read-requires c =
     let a = c.args in
     let r = c.refusal-n.ensures in
     let z = c.if-n-ne0.false in
-    let w = c.hex_bytes.ensures.1 in
+    let w = c.hex_bytes.ensures.out_after in
     let room = length-replicate {A = ℕ} 4234 0 in
     omega (arith, front_long a.line.now a.finished _ r z, front_count a.line.now a.finished _ r z _ _ room w)
 
@@ -42,6 +42,6 @@ returns c =
     let a = c.args in
     let r = c.refusal-n.ensures in
     let z = c.if-n-ne0.false in
-    let w = c.hex_bytes.ensures.1 in
+    let w = c.hex_bytes.ensures.out_after in
     let room = length-replicate {A = ℕ} 4234 0 in
     line_frame a.line.now a.finished _ r _ z _ _ (front_bytes a.line.now a.finished _ r z _ _ room w) c.frame_read.ensures
