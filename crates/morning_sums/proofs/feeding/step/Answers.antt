@@ -21,7 +21,7 @@ pub returns : goal.returns
 returns c =
     let a = c.before.args in
     let l = take a.s.line.held a.line.now in
-    let h = c.if1.false in
+    let h = c.if-b-ne10.false in
     let e = c.end_line.ensures in (
       ended_state a.s.line.number a.b l h _ _ _ e.1 e.2,
       added_as _ _ _ _ e.0 (end_out_lem a.s.line.number a.b l h event_line),
