@@ -1,5 +1,4 @@
 use native.Mathlib.Omega.{arith}
-use Prim.Native.Nat.{◌-◌}
 use Rattle.show.proofs.frames.Goals as goal
 
 pub loop-from-init : goal.loop-from-init

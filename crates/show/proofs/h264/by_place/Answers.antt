@@ -1,5 +1,4 @@
 use native.Mathlib.Omega.{arith}
-use Prim.Native.Nat.{◌-◌}
 use Rattle.show.proofs.h264.by_place.Goals as goal
 
 pub bounds-levels-i : goal.bounds-levels-i

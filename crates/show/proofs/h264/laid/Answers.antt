@@ -1,5 +1,4 @@
 use native.Mathlib.Omega.{arith}
-use Prim.Native.Nat.{◌-◌}
 use Rattle.show.proofs.h264.laid.Goals as goal
 
 pub list_place-requires : goal.list_place-requires
