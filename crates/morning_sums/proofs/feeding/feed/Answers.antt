@@ -1,6 +1,5 @@
 use native.Mathlib.Omega.{arith}
 use borrow.Author.Rules.{rules}
-use Prim.Native.Nat.{◌-◌}
 use mathlib.Core.Path.{refl}
 use Rattle.morning_add.specs.CodeLaws.{fed_begun, fed_more, fed_state_all, fed_sums_all}
 use Rattle.morning_sums.proofs.feeding.feed.Goals as goal
