@@ -3,7 +3,7 @@ ghost use Rattle.std.specs.Prelude.{◌≡◌, ◌≤◌};
 ghost use Rattle.bins.specs.Sources.{Readable, step_of_bits, bits_from};
 
 use bins::places::SourcePlace;
-use bins::state::{Interval, Step, step_of};
+use bins::state::{Interval, Step, Taken};
 use list_source::list;
 use payload_bypass::bypass;
 
@@ -36,8 +36,7 @@ pub fn decode_bypass_bits_by_parts(
     if list {
         return list::bypass_bits(bytes, x, n);
     }
-    let t = bypass::bypass_bits(bytes, x, n);
-    step_of(t)
+    Ok(bypass::bypass_bits(bytes, x, n))
 }
 
 // The same where there are often none, and then nothing is to be worked out.
@@ -46,7 +45,7 @@ pub fn decode_bypass_bits_if_any(list: bool, bytes: &[u8], x: Interval, n: u32) 
     ensures { result ≡ step_of_bits (bits_from list bytes.now n x) }
 {
     if n == 0 {
-        return Step::Bin(0, x);
+        return Ok(Taken { value: 0, next: x });
     }
     decode_bypass_bits(list, bytes, x, n)
 }

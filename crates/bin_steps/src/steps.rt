@@ -4,7 +4,7 @@ ghost use Rattle.tables.specs.Decisions.{decisions};
 ghost use Rattle.bins.specs.Sources.{Readable, step_of, step_of_bits, bin_from, context_from, bypass_from, bits_from, align_from};
 
 use crate::seldom;
-use bins::state::{Interval, Step, step_of};
+use bins::state::{Interval, Refusal, Step, Taken};
 use bins::tags::BYPASS;
 use list_source::list;
 use payload_bypass::bypass;
@@ -25,8 +25,7 @@ pub fn decode_bin(
     if list {
         return list::bin(bytes, number, x);
     }
-    let t = payload::decide(table, c, bytes, x);
-    step_of(t)
+    Ok(payload::decide(table, c, bytes, x))
 }
 
 pub fn decode_bypass(list: bool, bytes: &[u8], x: Interval) -> Step
@@ -36,8 +35,7 @@ pub fn decode_bypass(list: bool, bytes: &[u8], x: Interval) -> Step
     if list {
         return list::bin(bytes, BYPASS, x);
     }
-    let t = bypass::bypass_one(bytes, x);
-    step_of(t)
+    Ok(bypass::bypass_one(bytes, x))
 }
 
 // n bypass bins as a number. Up to 16 of a payload are read here, the rest by a call, which is lent a slice of its own and the interval by its parts:
@@ -48,8 +46,7 @@ pub fn decode_bypass_bits(list: bool, bytes: &[u8], x: Interval, n: u32) -> Step
 {
     if !list {
         if n <= 16 {
-            let t = bypass::bypass_few(bytes, x, n);
-            return step_of(t);
+            return Ok(bypass::bypass_few(bytes, x, n));
         }
     }
     let position = x.position;
@@ -68,14 +65,14 @@ pub fn align_bypass(list: bool, bytes: &[u8], x: Interval) -> Step
     let offset = x.offset;
     let range = 256;
     if range <= offset {
-        return Step::Refused(7, x);
+        return Err(Refusal { number: 7, at: x });
     }
-    Step::Bin(
-        0,
-        Interval {
+    Ok(Taken {
+        value: 0,
+        next: Interval {
             range,
             offset,
             position: at,
         },
-    )
+    })
 }

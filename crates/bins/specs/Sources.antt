@@ -1,9 +1,8 @@
 -- The source that a reader's code reads: a bin list or a payload, by a Bool, from an interval and the contexts.
-use Rattle.std.specs.Prelude.{ℕ, ◌+◌, ◌*◌, ◌≤◌, ◌<◌, ◌≡◌, List, Bool, true, false, cond, length, get_or, set, ltb, leb}
+use Rattle.std.specs.Prelude.{ℕ, ◌+◌, ◌*◌, ◌≤◌, ◌<◌, ◌≡◌, List, Bool, true, false, cond, length, get_or, set, ltb, leb, Result, Ok, Err}
 use Rattle.bins.specs.declared.state.Interval.{Interval}
 use Rattle.bins.specs.declared.state.Refusal.{Refusal}
-use Rattle.bins.specs.declared.state.Step.{Step}
-use Rattle.bins.specs.declared.state.Step.TheVariants as step
+use Rattle.bins.specs.declared.state.Taken.{Taken}
 use Rattle.bins.specs.Engine.{bit_no}
 use Rattle.bins.specs.Tags.{bypass_no, align_tag, is_entry}
 use Rattle.bins.specs.Syn.{Took, took, refused, Source, Out, bin_of, run}
@@ -11,26 +10,27 @@ use Rattle.bins.specs.Readers.{bits_s}
 use Rattle.bins.specs.Interval.{place_of, Goes, decided_on, bypassed_on}
 
 -- ---- what the code's steps say
--- x is the interval before the step: where it is refused, it is so there
-abbrev pub step_of : Interval → Took Interval → Step
-step_of x (took b y) = step.Bin (bit_no b) y
-step_of x (refused n) = step.Refused n x
+abbrev pub Step : Type 0
+Step = Result Taken Refusal
 
-abbrev pub step_of_bits : Out Interval ℕ → Step
-step_of_bits (Out.ok v x) = step.Bin v x
-step_of_bits (Out.no n x) = step.Refused n x
+abbrev pub got : ℕ → Interval → Step
+got v y = Ok (record { value = v; next = y })
 
 -- a refusal by its number and the interval at which it arose
 abbrev pub refused_at : ℕ → Interval → Refusal
 refused_at n x = record { number = n; at = x }
 
 abbrev pub stopped : Refusal → Step
-stopped r = step.Refused r.number r.at
+stopped r = Err r
 
--- the refusal of a step; of a bin, number 0 behind it
-abbrev pub refusal_of : Step → Refusal
-refusal_of (step.Bin v y) = refused_at 0 y
-refusal_of (step.Refused n x) = refused_at n x
+-- x is the interval before the step: where it is refused, it is so there
+abbrev pub step_of : Interval → Took Interval → Step
+step_of x (took b y) = got (bit_no b) y
+step_of x (refused n) = stopped (refused_at n x)
+
+abbrev pub step_of_bits : Out Interval ℕ → Step
+step_of_bits (Out.ok v x) = got v x
+step_of_bits (Out.no n x) = stopped (refused_at n x)
 
 -- ---- a list, by the place of its next byte: an entry is two
 abbrev pub behind : Interval → Interval

@@ -3,7 +3,7 @@ ghost use Rattle.std.specs.Prelude.{◌≡◌, ◌+◌, ◌*◌, ◌/◌, ◌≤
 ghost use Rattle.bins.specs.Bits.{ends};
 
 // Bits are counted from 0, the high bit of byte 0 first.
-#[derive(Clone, Copy)]
+#[derive(Clone, Copy, PartialEq, Eq)]
 pub struct BitPlace(pub usize);
 
 #[derive(Clone, Copy)]

@@ -1,11 +1,8 @@
 // The arithmetic engine's state, between calls and while a block is read.
-ghost use Rattle.std.specs.Prelude.{◌≡◌};
-ghost use Rattle.bins.specs.Sources.{refusal_of};
-
 use crate::places::{BitPlace, SourcePlace};
 
 // Between calls: range, offset, position, an ended mark, and how many bits past the end were supplied since the first start, to 65,535.
-#[derive(Clone, Copy)]
+#[derive(Clone, Copy, PartialEq, Eq)]
 pub struct Engine {
     pub range: u32,
     pub offset: u32,
@@ -36,27 +33,5 @@ pub struct Refusal {
     pub at: Interval,
 }
 
-// Bins with the state behind them, or a refusal by its number and the state at which it arose: as two fields they lie where the bins do, and a step stays small.
-#[derive(Clone, Copy)]
-pub enum Step {
-    Bin(u32, Interval),
-    Refused(u32, Interval),
-}
-
-// The refusal of a step; of a bin, number 0 behind it.
-pub fn refusal_of(s: Step) -> Refusal
-    ensures { result ≡ refusal_of s }
-{
-    match s {
-        Step::Bin(_, y) => Refusal { number: 0, at: y },
-        Step::Refused(number, at) => Refusal { number, at },
-    }
-}
-
-// A step that is not refused.
-pub fn step_of(t: Taken) -> Step
-    ensures { result ≡ Step.Bin t.value t.next }
-{
-    let next = t.next;
-    Step::Bin(t.value, next)
-}
+// Bins with the state behind them, or a refusal: the one lies where the other does, and a step stays small.
+pub type Step = Result<Taken, Refusal>;

@@ -5,7 +5,7 @@
 
 mod words; // words.rt: what standard error is told
 
-ghost use Rattle.std.specs.Prelude.{◌≡◌, ◌+◌, ◌*◌, ◌≤◌, ◌<◌, length, IfOk};
+ghost use Rattle.std.specs.Prelude.{◌≡◌, ◌+◌, ◌*◌, ◌≤◌, ◌<◌, length, IfOk, IfSome};
 
 use book_answering::answering::{feed, finish};
 use book_answers::tally::NUMBERS;
@@ -20,12 +20,6 @@ const ROOM: usize = 286720;
 
 // More pieces than any input has: nothing says that the input ends, so the loop counts down.
 const TURNS: u64 = 2251799813685248;
-
-#[derive(Clone, Copy)]
-pub struct Next {
-    pub line: Pending,
-    pub more: bool,
-}
 
 // False, and a word on standard error, where the answers could not be written.
 fn written(to: &impl Print, err: &impl Print, alloc: Global, out: &[u8]) -> io::Result<bool> {
@@ -59,7 +53,7 @@ fn end(
     Ok(())
 }
 
-// A piece is fed, and what it gave written.
+// A piece is fed, and what it gave written; none where that failed.
 fn fed(
     to: &impl Print,
     err: &impl Print,
@@ -69,21 +63,19 @@ fn fed(
     tally: &mut [u64],
     out: &mut [u8],
     p: Pending,
-) -> io::Result<Next>
+) -> io::Result<Option<Pending>>
     requires { (length piece.now ≤ 4096) × (length line.old ≡ 8469) × (p.held ≤ 8469) × (length out.old ≡ 286720) × (p.number + 4096 < 18446744073709551615) }
-    ensures { IfOk result (λ next. (next.line.held ≤ 8469) × (next.line.number ≤ p.number + 4096) × (p.number ≤ next.line.number)) }
+    ensures { IfOk result (λ r. IfSome r (λ next. (next.held ≤ 8469) × (next.number ≤ p.number + 4096) × (p.number ≤ next.number))) }
 {
     let s = feed(piece, line, p, tally, out);
     let n = s.out;
-    let more = written(to, err, alloc, &out[..n])?;
-    let line_now = s.line;
-    Ok(Next {
-        line: line_now,
-        more,
-    })
+    if !written(to, err, alloc, &out[..n])? {
+        return Ok(None);
+    }
+    Ok(Some(s.line))
 }
 
-// One piece, or the end.
+// One piece; none at the end, or where reading or writing failed.
 fn turn(
     input: &mut impl Read,
     to: &impl Print,
@@ -94,23 +86,19 @@ fn turn(
     tally: &mut [u64],
     out: &mut [u8],
     p: Pending,
-) -> io::Result<Next>
+) -> io::Result<Option<Pending>>
     requires { (length piece.old ≡ 4096) × (length line.old ≡ 8469) × (p.held ≤ 8469) × (length out.old ≡ 286720) × (1 ≤ p.number) × (p.number + 4096 < 18446744073709551615) }
-    ensures { IfOk result (λ next. (next.line.held ≤ 8469) × (next.line.number ≤ p.number + 4096) × (p.number ≤ next.line.number)) }
+    ensures { IfOk result (λ r. IfSome r (λ next. (next.held ≤ 8469) × (next.number ≤ p.number + 4096) × (p.number ≤ next.number))) }
 {
-    let over = Next {
-        line: p,
-        more: false,
-    };
     match input.read(piece) {
         Ok(0) => {
             end(to, err, alloc, line, tally, out, p)?;
-            Ok(over)
+            Ok(None)
         }
         Ok(n) => fed(to, err, alloc, &piece[..n], line, tally, out, p),
         Err(e) => {
             fail(err, alloc, b"the book", &e)?;
-            Ok(over)
+            Ok(None)
         }
     }
 }
@@ -129,14 +117,11 @@ fn turns(
     requires { (length piece.old ≡ 4096) × (length line.old ≡ 8469) × (length out.old ≡ 286720) }
 {
     let mut p = first();
-    let mut left = TURNS;
-    while 0 < left {
-        let r = turn(input, to, err, alloc, piece, line, tally, out, p)?;
-        if !r.more {
+    for left in (0..TURNS).rev() {
+        let Some(next) = turn(input, to, err, alloc, piece, line, tally, out, p)? else {
             return Ok(());
-        }
-        p = r.line;
-        left -= 1;
+        };
+        p = next;
         words::so_far(err, told, left, p.number)?;
     }
     Ok(())

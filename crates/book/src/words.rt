@@ -42,10 +42,8 @@ pub fn ended(err: &impl Print, frames: u64, tally: &[u64]) -> io::Result<()> {
     }
     write::decimal(err, tally[0])?;
     write::text(err, b" ok")?;
-    let mut i: usize = 1;
-    while i < tally.len() {
+    for i in 1..tally.len() {
         refused(err, i, tally[i])?;
-        i += 1;
     }
     write::end_line(err)
 }

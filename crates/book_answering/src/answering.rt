@@ -20,7 +20,7 @@ pub fn judge_line(line: &[u8], finished: bool) -> Verdict
 {
     let n = refusal(line, finished);
     if n != 0 {
-        return Verdict::No(n);
+        return Err(n);
     }
     let mut bytes = [0u8; 4234];
     hex_bytes(line, &mut bytes);
@@ -80,10 +80,8 @@ pub fn feed(
     ensures { (reading line.new result.line ≡ fed_state (reading line.old p) piece.now) × Gave (λ (f : ℕ → Line → List ℕ). fed_out f (reading line.old p) piece.now) [] tally.old (take result.out out.new) tally.new × (result.line.held ≤ 8469) × (result.out ≤ 70 * length piece.now) × (p.number ≤ result.line.number) × (result.line.number ≤ p.number + length piece.now) }
 {
     let mut s = Answering { line: p, out: 0 };
-    let mut i: usize = 0;
-    while i < piece.len() {
-        s = step(piece[i], line, s, tally, out);
-        i += 1;
+    for &b in piece {
+        s = step(b, line, s, tally, out);
     }
     s
 }

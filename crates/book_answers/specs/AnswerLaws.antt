@@ -1,12 +1,8 @@
 -- Laws of the answers: however the book is cut; the payload of a frame is as long as its field says. Assumes nothing.
-use Rattle.std.specs.Prelude.{ℕ, zero, suc, ◌+◌, ◌*◌, ◌-◌, ◌/◌, ◌%◌, ◌≤◌, ◌<◌, ◌≡◌, refl, Bool, true, false, cond, ◌&&◌, ◌||◌, List, [], ◌∷◌, ◌++◌, ◌⊎◌, leb, eqb, length, take, drop, get_or}
+use Rattle.std.specs.Prelude.{ℕ, zero, suc, ◌+◌, ◌*◌, ◌-◌, ◌/◌, ◌%◌, ◌≤◌, ◌<◌, ◌≡◌, refl, Bool, true, false, cond, ◌&&◌, ◌||◌, List, [], ◌∷◌, ◌++◌, ◌⊎◌, leb, eqb, length, take, drop, get_or, Some, Option, Err}
 use Rattle.std.proofs.Common.{arith, sym, subst, ◌∙◌, ⊎_elim, length-drop}
 use Rattle.std.proofs.Math.Path.{ap}
 use borrow.Author.Tests.{leb-true, le-leb, lt-leb, eqb-true}
-use Rattle.text_fields.specs.declared.fields.Digit.{Digit}
-use Rattle.text_fields.specs.declared.fields.Digit.TheVariants as ofDigit
-use Rattle.text_fields.specs.declared.fields.Octet.{Octet}
-use Rattle.text_fields.specs.declared.fields.Octet.TheVariants as ofOctet
 use Rattle.text_fields.specs.Spelled.{digit_of, octet_from, octet_of, octet_then, octets_of}
 use Rattle.text_fields.specs.SpelledLaws.{digit_decimal, digit_letter}
 use Rattle.text_room.specs.Decimal.{decimal}
@@ -15,7 +11,6 @@ use Rattle.book_lines.specs.Form.{most_digits, front_digits, is_digit, all_digit
 use Rattle.book_lines.specs.FormLaws.{form_long, clips_by, and_left, and_right, Keeps, keeps, keeps_digits, digit_cases}
 use Rattle.book_lines.specs.Steps.{begun, pieces_out, joined}
 use Rattle.book_lines.specs.LineLaws.{Clips, cut}
-use Rattle.frame.specs.declared.judge.Verdict.TheVariants as ofVerdict
 use Rattle.frame.specs.Frame.{payload_of, byte_of}
 use Rattle.book_answers.specs.Answers.{verdict_words, judged_by, judged, answer_line, answers, outcome, outcome_line, counted, no_frames, tallied}
 
@@ -23,7 +18,7 @@ use Rattle.book_answers.specs.Answers.{verdict_words, judged_by, judged, answer_
 pub answer_clips : Clips answer_line
 unfolding answer_line judged judged_by
 answer_clips =
-    clips_by answer_line (λ (n : ℕ). decimal n ++ (verdict_words (ofVerdict.No 22) ++ (line_feed ∷ [])))
+    clips_by answer_line (λ (n : ℕ). decimal n ++ (verdict_words (Err 22) ++ (line_feed ∷ [])))
     (λ (n : ℕ) (l : Line) (h : most_digits < length l.text). ap (λ (k : ℕ). decimal n ++ (verdict_words (judged_by k l.text) ++ (line_feed ∷ []))) (form_long l h))
 
 pub outcome_clips : Clips outcome_line
@@ -39,18 +34,18 @@ pub tallied_cut : (cs : List (List ℕ)) → counted no_frames (pieces_out outco
 tallied_cut cs = ap (counted no_frames) (cut outcome_line outcome_clips cs)
 
 -- ---- digits throughout spell half as many bytes, each by two of them
-digit_worth : (b : ℕ) → is_digit b ≡ true → digit_of b ≡ ofDigit.Is (worth b)
+digit_worth : (b : ℕ) → is_digit b ≡ true → digit_of b ≡ Some (worth b)
 unfolding worth
 digit_worth b e =
     ⊎_elim
-    (λ w. sym (digit_decimal b w.0 w.1) ∙ ap (λ (t : Bool). ofDigit.Is (cond t (b - 48) (b - 87))) (sym (le-leb b 57 w.1)))
-    (λ w. sym (digit_letter b w.0 w.1) ∙ ap (λ (t : Bool). ofDigit.Is (cond t (b - 48) (b - 87))) (sym (lt-leb b 57 (omega arith))))
+    (λ w. sym (digit_decimal b w.0 w.1) ∙ ap (λ (t : Bool). Some (cond t (b - 48) (b - 87))) (sym (le-leb b 57 w.1)))
+    (λ w. sym (digit_letter b w.0 w.1) ∙ ap (λ (t : Bool). Some (cond t (b - 48) (b - 87))) (sym (lt-leb b 57 (omega arith))))
     (digit_cases b e)
 
-octet_worth : (h l : ℕ) → is_digit h ≡ true → is_digit l ≡ true → octet_of h l ≡ ofOctet.Is (worth h * 16 + worth l)
+octet_worth : (h l : ℕ) → is_digit h ≡ true → is_digit l ≡ true → octet_of h l ≡ Some (worth h * 16 + worth l)
 unfolding octet_of octet_from
 octet_worth h l p q =
-    ap (λ (x : Digit). octet_from x (digit_of l)) (digit_worth h p) ∙ ap (λ (x : Digit). octet_from (ofDigit.Is (worth h)) x) (digit_worth l q)
+    ap (λ (x : Option ℕ). octet_from x (digit_of l)) (digit_worth h p) ∙ ap (λ (x : Option ℕ). octet_from (Some (worth h)) x) (digit_worth l q)
 
 module _ (h b : ℕ) (l : List ℕ) (e : all_digits (h ∷ b ∷ l) ≡ true) where
   rest_digits : all_digits l ≡ true
@@ -60,7 +55,7 @@ module _ (h b : ℕ) (l : List ℕ) (e : all_digits (h ∷ b ∷ l) ≡ true) wh
   pub octets_cons : octets_of (h ∷ b ∷ l) ≡ (worth h * 16 + worth b) ∷ octets_of l
   unfolding octets_of octet_then all_digits
   octets_cons =
-      ap (λ (x : Octet). octet_then x (octets_of l))
+      ap (λ (x : Option ℕ). octet_then x (octets_of l))
       (octet_worth h b (and_left (is_digit h) (is_digit b && all_digits l) e) (and_left (is_digit b) (all_digits l) (and_right (is_digit h) (is_digit b && all_digits l) e)))
 
 pub octets_half : (l : List ℕ) → all_digits l ≡ true → length l % 2 ≡ 0 → 2 * length (octets_of l) ≡ length l

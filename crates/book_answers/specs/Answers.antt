@@ -1,18 +1,16 @@
 -- The answers to a book of test pieces (document 02, (viii)): a line for each line.
-use Rattle.std.specs.Prelude.{ℕ, zero, suc, ◌+◌, cond, List, [], ◌∷◌, ◌++◌, ltb, get_or, set, replicate}
+use Rattle.std.specs.Prelude.{ℕ, zero, suc, ◌+◌, cond, List, [], ◌∷◌, ◌++◌, ltb, get_or, set, replicate, Ok, Err}
 use Rattle.text_fields.specs.Spelled.{octets_of}
 use Rattle.text_room.specs.Decimal.{decimal}
 use Rattle.book_lines.specs.Lines.{Line, line_feed, program}
 use Rattle.book_lines.specs.Form.{form_refusal}
-use Rattle.frame.specs.declared.judge.Verdict.{Verdict}
-use Rattle.frame.specs.declared.judge.Verdict.TheVariants as ofVerdict
-use Rattle.frame.specs.Verdict.{verdict}
+use Rattle.frame.specs.Verdict.{verdict, Verdict, ok}
 
 -- ---- the verdict on a line: behind the form, which gave the number n, that on the bytes that it spells
 unfoldable pub judged_by : ℕ → List ℕ → Verdict
 unfolding verdict
 judged_by zero l = verdict (octets_of l)
-judged_by (suc n) l = ofVerdict.No (suc n)
+judged_by (suc n) l = Err (suc n)
 
 unfoldable pub judged : Line → Verdict
 unfolding judged_by
@@ -35,8 +33,8 @@ no_words n = no_word ++ decimal n
 
 unfoldable pub verdict_words : Verdict → List ℕ
 unfolding ok_words no_words
-verdict_words (ofVerdict.Ok greatest past) = ok_words greatest past
-verdict_words (ofVerdict.No n) = no_words n
+verdict_words (Ok j) = ok_words j.greatest j.past
+verdict_words (Err n) = no_words n
 
 unfoldable pub answer_line : ℕ → Line → List ℕ
 unfolding decimal judged verdict_words
@@ -48,8 +46,8 @@ answers s = program answer_line s
 
 -- ---- the tally: how often each number was given; 0 is ok
 abbrev pub outcome : Verdict → ℕ
-outcome (ofVerdict.Ok greatest past) = 0
-outcome (ofVerdict.No n) = n
+outcome (Ok j) = 0
+outcome (Err n) = n
 
 unfoldable pub outcome_line : ℕ → Line → List ℕ
 unfolding judged

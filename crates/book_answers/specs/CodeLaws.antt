@@ -1,5 +1,5 @@
 -- Laws as the code meets them: the frame that a line spells, the words, the tally, a line that has ended, a piece. Assumes nothing.
-use Rattle.std.specs.Prelude.{ℕ, zero, suc, ◌+◌, ◌*◌, ◌/◌, ◌≤◌, ◌<◌, ◌≡◌, refl, Bool, cond, ltb, length, get_or, set}
+use Rattle.std.specs.Prelude.{ℕ, zero, suc, ◌+◌, ◌*◌, ◌/◌, ◌≤◌, ◌<◌, ◌≡◌, refl, Bool, cond, ltb, length, get_or, set, Err}
 use Rattle.std.proofs.Common.{arith, sym, ◌∙◌, length-take, lt-ltb, le-ltb}
 use Rattle.std.proofs.Math.Path.{ap}
 use mathlib.Core.List.{List, [], ◌∷◌, ◌++◌}
@@ -13,9 +13,7 @@ use Rattle.book_lines.specs.Form.{form_refusal}
 use Rattle.book_lines.specs.FormLaws.{Keeps, keeps}
 use Rattle.book_lines.specs.Steps.{Reading, reading, step_state, step_out, fed_state, fed_out}
 use Rattle.book_lines.specs.CodeLaws.{fed_next, out_next, fed_all, out_all}
-use Rattle.frame.specs.declared.judge.Verdict.{Verdict}
-use Rattle.frame.specs.declared.judge.Verdict.TheVariants as ofVerdict
-use Rattle.frame.specs.Verdict.{verdict}
+use Rattle.frame.specs.Verdict.{verdict, Verdict, ok}
 use Rattle.book_answers.specs.declared.answering.Answering.{Answering}
 use Rattle.book_answers.specs.Answers.{ok_word, no_word, ok_words, no_words, verdict_words, judged_by, judged, answer_line, outcome, outcome_line, one_more, counted}
 use Rattle.book_answers.specs.AnswerLaws.{keeps_long, keeps_half}
@@ -49,12 +47,12 @@ module _ (l : List ℕ) (e : Bool) (n : ℕ) (f : n ≡ form_refusal (line_of l 
   unfolding judged judged_by
   judged_frame bytes v b w = w ∙ ap verdict b ∙ ap (λ (x : ℕ). judged_by x l) (sym z ∙ f)
 
-no_by : (n : ℕ) (l : List ℕ) → (n ≡ 0 → ⊥) → ofVerdict.No n ≡ judged_by n l
+no_by : (n : ℕ) (l : List ℕ) → (n ≡ 0 → ⊥) → Err n ≡ judged_by n l
 unfolding judged_by
 no_by zero l h = absurd (h refl)
 no_by (suc n) l h = refl
 
-pub judged_form : (l : List ℕ) (e : Bool) (n : ℕ) → n ≡ form_refusal (line_of l e) → (n ≡ 0 → ⊥) → ofVerdict.No n ≡ judged (line_of l e)
+pub judged_form : (l : List ℕ) (e : Bool) (n : ℕ) → n ≡ form_refusal (line_of l e) → (n ≡ 0 → ⊥) → Err n ≡ judged (line_of l e)
 unfolding judged
 judged_form l e n f h = no_by n l h ∙ ap (λ (x : ℕ). judged_by x l) f
 
@@ -67,11 +65,11 @@ pub no_is : (n : ℕ) → no_word ++ decimal n ≡ no_words n
 unfolding no_words
 no_is n = refl
 
-pub ok_words_lem : (v : Verdict) (g p : ℕ) → v ≡ ofVerdict.Ok g p → ok_words g p ≡ verdict_words v
+pub ok_words_lem : (v : Verdict) (g p : ℕ) → v ≡ ok g p → ok_words g p ≡ verdict_words v
 unfolding verdict_words
 ok_words_lem v g p e = ap verdict_words (sym e)
 
-pub no_words_lem : (v : Verdict) (n : ℕ) → v ≡ ofVerdict.No n → no_words n ≡ verdict_words v
+pub no_words_lem : (v : Verdict) (n : ℕ) → v ≡ Err n → no_words n ≡ verdict_words v
 unfolding verdict_words
 no_words_lem v n e = ap verdict_words (sym e)
 

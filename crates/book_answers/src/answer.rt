@@ -29,8 +29,8 @@ fn put_verdict(v: Verdict, out: &mut [u8], at: usize) -> usize
     ensures { (take result out.new ≡ take at out.old ++ verdict_words v) × (result ≤ at + 45) }
 {
     match v {
-        Verdict::Ok(greatest, past) => put_ok(greatest, past, out, at),
-        Verdict::No(n) => put_no(n, out, at),
+        Ok(j) => put_ok(j.greatest, j.past, out, at),
+        Err(n) => put_no(n, out, at),
     }
 }
 

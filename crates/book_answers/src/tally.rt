@@ -11,8 +11,8 @@ pub fn number_of(v: Verdict) -> u32
     ensures { result ≡ outcome v }
 {
     match v {
-        Verdict::Ok(_, _) => 0,
-        Verdict::No(n) => n,
+        Ok(_) => 0,
+        Err(n) => n,
     }
 }
 

@@ -22,12 +22,10 @@ fn is_digit(b: u8) -> bool
 fn all_digits(line: &[u8]) -> bool
     ensures { result ≡ all_digits line.now }
 {
-    let mut i = 0;
-    while i < line.len() {
-        if !is_digit(line[i]) {
+    for &b in line {
+        if !is_digit(b) {
             return false;
         }
-        i += 1;
     }
     true
 }
@@ -35,10 +33,7 @@ fn all_digits(line: &[u8]) -> bool
 fn less(b: u8, c: u8) -> usize
     ensures { result ≡ b - c }
 {
-    if b < c {
-        return 0;
-    }
-    (b - c) as usize
+    b.saturating_sub(c) as usize
 }
 
 // What a digit counts.

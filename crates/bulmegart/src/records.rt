@@ -105,49 +105,54 @@ pub fn block_handed(payload: &[u8], s: EngineState, p: BlockParams) -> u32
     )
 }
 
-pub fn engine_of(s: EngineState) -> Engine
-    ensures { result ≡ engine_of s }
-{
-    let at = BitPlace(s.position);
-    Engine {
-        range: s.range,
-        offset: s.offset,
-        position: at,
-        ended: is_set(s.ended),
-        past: s.past,
+impl From<EngineState> for Engine {
+    ghost from_gives = { λ s e. e ≡ engine_of s };
+
+    fn from(s: EngineState) -> Engine {
+        Engine {
+            range: s.range,
+            offset: s.offset,
+            position: BitPlace(s.position),
+            ended: is_set(s.ended),
+            past: s.past,
+        }
     }
 }
 
-pub fn state_of(e: Engine) -> EngineState
-    ensures { result ≡ state_of e }
-{
-    EngineState {
-        range: e.range,
-        offset: e.offset,
-        position: e.position.0,
-        ended: flag_byte(e.ended),
-        past: e.past,
+impl From<Engine> for EngineState {
+    ghost from_gives = { λ e s. s ≡ state_of e };
+
+    fn from(e: Engine) -> EngineState {
+        EngineState {
+            range: e.range,
+            offset: e.offset,
+            position: e.position.0,
+            ended: flag_byte(e.ended),
+            past: e.past,
+        }
     }
 }
 
-pub fn params_of(p: BlockParams) -> Params
-    ensures { result ≡ params_of p }
-{
-    Params {
-        log2: p.log2,
-        luma: is_set(p.luma),
-        scan: p.scan,
-        depth: p.depth,
-        hiding: is_set(p.hiding),
-        skip_allowed: is_set(p.skip_allowed),
-        lossless: is_set(p.lossless),
-        persistent: is_set(p.persistent),
-        skip_context: is_set(p.skip_context),
-        explicit_rdpcm: is_set(p.explicit_rdpcm),
-        implicit_rdpcm: is_set(p.implicit_rdpcm),
-        inter: is_set(p.inter),
-        aligning: is_set(p.aligning),
-        extended: is_set(p.extended),
+impl From<BlockParams> for Params {
+    ghost from_gives = { λ p q. q ≡ params_of p };
+
+    fn from(p: BlockParams) -> Params {
+        Params {
+            log2: p.log2,
+            luma: is_set(p.luma),
+            scan: p.scan,
+            depth: p.depth,
+            hiding: is_set(p.hiding),
+            skip_allowed: is_set(p.skip_allowed),
+            lossless: is_set(p.lossless),
+            persistent: is_set(p.persistent),
+            skip_context: is_set(p.skip_context),
+            explicit_rdpcm: is_set(p.explicit_rdpcm),
+            implicit_rdpcm: is_set(p.implicit_rdpcm),
+            inter: is_set(p.inter),
+            aligning: is_set(p.aligning),
+            extended: is_set(p.extended),
+        }
     }
 }
 
@@ -155,9 +160,5 @@ pub fn params_of(p: BlockParams) -> Params
 pub fn rdpcm_number(r: Rdpcm) -> u8
     ensures { result ≡ rdpcm_no r }
 {
-    match r {
-        Rdpcm::None => 0,
-        Rdpcm::Horizontal => 1,
-        Rdpcm::Vertical => 2,
-    }
+    r as u8
 }

@@ -4,9 +4,8 @@ ghost use Rattle.cabac.specs.Entries as entries;
 ghost use Rattle.bulmegart.specs.Records.{engine_of, behind_state};
 ghost use Rattle.bulmegart_engine.specs.Exported.{state_given, rest_given};
 
-use bulmegart::records::{EngineState, engine_of, state_handed};
+use bulmegart::records::{EngineState, state_handed};
 use bulmegart_engine::engine::{RestAnswer, StateAnswer, state_answer, state_number};
-use cabac::answers::State;
 use cabac_align::align::{align_bypass, byte_align, rest};
 
 #[unsafe(no_mangle)]
@@ -15,9 +14,9 @@ pub extern "C" fn bulmegart_align_bypass(payload: &[u8], state: EngineState) -> 
 {
     let n = state_handed(payload, state);
     if n != 0 {
-        return state_answer(State::Refused(n), state);
+        return state_answer(Err(n), state);
     }
-    state_answer(align_bypass(payload, engine_of(state)), state)
+    state_answer(align_bypass(payload, state.into()), state)
 }
 
 #[unsafe(no_mangle)]
@@ -26,9 +25,9 @@ pub extern "C" fn bulmegart_byte_align(payload: &[u8], state: EngineState) -> St
 {
     let n = state_handed(payload, state);
     if n != 0 {
-        return state_answer(State::Refused(n), state);
+        return state_answer(Err(n), state);
     }
-    state_answer(byte_align(payload, engine_of(state)), state)
+    state_answer(byte_align(payload, state.into()), state)
 }
 
 // The rest of the payload behind byte alignment, as its first byte's place and its length.
@@ -44,7 +43,7 @@ pub extern "C" fn bulmegart_rest(payload: &[u8], state: EngineState) -> RestAnsw
             length: 0,
         };
     }
-    let e = engine_of(state);
+    let e = state.into();
     let length = rest(payload, e).len();
     RestAnswer {
         number: state_number(byte_align(payload, e)),

@@ -5,7 +5,7 @@ ghost use Rattle.cabac.specs.Entries as entries;
 ghost use Rattle.bulmegart.specs.Records.{engine_of, behind_state};
 ghost use Rattle.bulmegart_engine.specs.Exported.{decision_given, bins_given};
 
-use bulmegart::records::{EngineState, engine_of, flag_byte, state_handed, state_of};
+use bulmegart::records::{EngineState, flag_byte, state_handed};
 use bulmegart_engine::engine::{BinsAnswer, DecisionAnswer};
 use cabac::answers::{Bins, Decision};
 use cabac_bins::decode::{decode_bin, decode_terminate};
@@ -14,13 +14,13 @@ fn decision_answer(r: Decision, context: u8, s: EngineState) -> DecisionAnswer
     ensures { result ≡ decision_given context s (decision_says r) }
 {
     match r {
-        Decision::Bin(bin, next, e) => DecisionAnswer {
+        Ok(d) => DecisionAnswer {
             number: 0,
-            bin: flag_byte(bin),
-            context: next,
-            state: state_of(e),
+            bin: flag_byte(d.bin),
+            context: d.context,
+            state: d.state.into(),
         },
-        Decision::Refused(n) => DecisionAnswer {
+        Err(n) => DecisionAnswer {
             number: n,
             bin: 0,
             context,
@@ -33,12 +33,12 @@ pub fn bins_answer(r: Bins, s: EngineState) -> BinsAnswer
     ensures { result ≡ bins_given s (bins_say r) }
 {
     match r {
-        Bins::Read(value, e) => BinsAnswer {
+        Ok(b) => BinsAnswer {
             number: 0,
-            value,
-            state: state_of(e),
+            value: b.value,
+            state: b.state.into(),
         },
-        Bins::Refused(n) => BinsAnswer {
+        Err(n) => BinsAnswer {
             number: n,
             value: 0,
             state: s,
@@ -56,13 +56,9 @@ pub extern "C" fn bulmegart_decode_bin(
 {
     let n = state_handed(payload, state);
     if n != 0 {
-        return decision_answer(Decision::Refused(n), context, state);
+        return decision_answer(Err(n), context, state);
     }
-    decision_answer(
-        decode_bin(payload, engine_of(state), context),
-        context,
-        state,
-    )
+    decision_answer(decode_bin(payload, state.into(), context), context, state)
 }
 
 #[unsafe(no_mangle)]
@@ -71,7 +67,7 @@ pub extern "C" fn bulmegart_decode_terminate(payload: &[u8], state: EngineState)
 {
     let n = state_handed(payload, state);
     if n != 0 {
-        return bins_answer(Bins::Refused(n), state);
+        return bins_answer(Err(n), state);
     }
-    bins_answer(decode_terminate(payload, engine_of(state)), state)
+    bins_answer(decode_terminate(payload, state.into()), state)
 }

@@ -1,12 +1,10 @@
 -- What the block readers answer and leave behind in C's form.
-use Rattle.std.specs.Prelude.{ℕ, zero, suc, List, Bool, ℤ}
+use Rattle.std.specs.Prelude.{ℕ, zero, suc, List, Bool, ℤ, Result, Ok, Err}
 use Rattle.bins.specs.Engine.{bit_no}
 use Rattle.cabac.specs.Numbers.{Answer, accepted, refused, ◌or_else◌, payload_refusal}
 use Rattle.hevc_residual.specs.Entries.{Found, FoundAt, PayloadRead, BinsRead, read_payload, read_bins}
-use Rattle.hevc_residual.specs.declared.answers.Read.{Read}
-use Rattle.hevc_residual.specs.declared.answers.Read.TheVariants as read
-use Rattle.hevc_residual.specs.declared.answers.ReadList.{ReadList}
-use Rattle.hevc_residual.specs.declared.answers.ReadList.TheVariants as readlist
+use Rattle.hevc_residual.specs.declared.answers.ReadBlock.{ReadBlock}
+use Rattle.hevc_residual.specs.declared.answers.Found as code
 use Rattle.hevc_residual.specs.Answers.{found_seen}
 use Rattle.bulmegart.specs.declared.records.EngineState.{EngineState}
 use Rattle.bulmegart.specs.declared.records.BlockParams.{BlockParams}
@@ -16,13 +14,13 @@ use Rattle.bulmegart_blocks.specs.declared.blocks.ListAnswer.{ListAnswer}
 use Rattle.bulmegart.specs.Records.{state_flags, params_flags, engine_of, state_of, params_of, rdpcm_no}
 
 -- ---- what the readers' answers say
-abbrev pub read_says : Read → Answer FoundAt
-read_says (read.Block f e) = accepted (record { found = found_seen f; next = e })
-read_says (read.Refused n) = refused n
+abbrev pub read_says : Result ReadBlock ℕ → Answer FoundAt
+read_says (Ok b) = accepted (record { found = found_seen b.found; next = b.state })
+read_says (Err n) = refused n
 
-abbrev pub list_says : ReadList → Answer Found
-list_says (readlist.Block f) = accepted (found_seen f)
-list_says (readlist.Refused n) = refused n
+abbrev pub list_says : Result code.Found ℕ → Answer Found
+list_says (Ok f) = accepted (found_seen f)
+list_says (Err n) = refused n
 
 -- ---- an answer as C has it: zeros beside the number of a refusal, and the state s handed in
 abbrev pub found_given : Found → BlockFound

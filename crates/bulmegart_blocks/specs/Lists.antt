@@ -1,6 +1,6 @@
 -- What the writer of bins answers and leaves behind in C's form.
 use Prim.Native.Nat.{ℕ, zero, suc, ◌≤◌, ◌<◌}
-use Rattle.std.specs.Prelude.{◌≡◌, List, Bool, cond, ℤ, ltb}
+use Rattle.std.specs.Prelude.{◌≡◌, List, Bool, cond, ℤ, ltb, Result}
 use Rattle.std.proofs.Math.Path.{refl, sym, ap}
 use Rattle.std.proofs.Common.{◌∙◌, arith, lt-ltb, le-ltb}
 use Rattle.cabac.specs.Numbers.{Answer, accepted, refused, ◌or_else◌}
@@ -8,7 +8,6 @@ use Rattle.hevc_residual.specs.declared.params.Params.{Params}
 use Rattle.hevc_residual.specs.declared.params.Rdpcm.{Rdpcm}
 use Rattle.hevc_residual.specs.declared.params.Rdpcm.TheVariants as rdpcm
 use Rattle.hevc_residual.specs.Entries.{BinsWritten, write_bins}
-use Rattle.hevc_residual.specs.declared.answers.Written.{Written}
 use Rattle.hevc_residual.specs.Answers.{written_says, bins_written}
 use Rattle.bulmegart.specs.declared.records.BlockParams.{BlockParams}
 use Rattle.bulmegart_blocks.specs.declared.lists.WriteAnswer.{WriteAnswer}
@@ -78,7 +77,7 @@ module _ (p : BlockParams) (stats : List ℕ) (block : List ℤ) (skip choice : 
       go zero h = absurd (h refl)
       go (suc n) h = refl
 
-  pub write_yes : (n : ℕ) (a : WriteAnswer) (r : Written) (q : Params) (s : Bool) (c : Rdpcm) (stats' room' : List ℕ)
+  pub write_yes : (n : ℕ) (a : WriteAnswer) (r : Result ℕ ℕ) (q : Params) (s : Bool) (c : Rdpcm) (stats' room' : List ℕ)
       → n ≡ (params_flags p or_else flag_refusal skip or_else choice_refusal choice) → n ≡ 0 → q ≡ params_of p → s ≡ is_set skip → c ≡ choice_of choice
       → bins_written r stats' room' ≡ write_bins q stats block s c room → a ≡ write_given (written_says r)
       → write_left a stats' room' ≡ write_block p stats block skip choice room

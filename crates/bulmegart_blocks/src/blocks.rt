@@ -3,7 +3,7 @@ ghost use Rattle.std.specs.Prelude.{◌≡◌};
 ghost use Rattle.hevc_residual.specs.Answers.{found_seen};
 ghost use Rattle.bulmegart_blocks.specs.Blocks.{found_given, no_found, block_given, list_given, read_says, list_says};
 
-use bulmegart::records::{EngineState, flag_byte, rdpcm_number, state_of};
+use bulmegart::records::{EngineState, flag_byte, rdpcm_number};
 use hevc_residual::answers::{Found, Read, ReadList};
 
 // What document 01 gives of a block beside its levels; zeros after a refusal.
@@ -61,12 +61,12 @@ pub fn block_answer(r: Read, s: EngineState) -> BlockAnswer
     ensures { result ≡ block_given s (read_says r) }
 {
     match r {
-        Read::Block(f, e) => BlockAnswer {
+        Ok(b) => BlockAnswer {
             number: 0,
-            found: found_of(f),
-            state: state_of(e),
+            found: found_of(b.found),
+            state: b.state.into(),
         },
-        Read::Refused(n) => BlockAnswer {
+        Err(n) => BlockAnswer {
             number: n,
             found: no_found(),
             state: s,
@@ -78,11 +78,11 @@ pub fn list_answer(r: ReadList) -> ListAnswer
     ensures { result ≡ list_given (list_says r) }
 {
     match r {
-        ReadList::Block(f) => ListAnswer {
+        Ok(f) => ListAnswer {
             number: 0,
             found: found_of(f),
         },
-        ReadList::Refused(n) => ListAnswer {
+        Err(n) => ListAnswer {
             number: n,
             found: no_found(),
         },

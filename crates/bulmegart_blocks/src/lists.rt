@@ -50,11 +50,11 @@ pub fn write_answer(r: Written) -> WriteAnswer
     ensures { result ≡ write_given (written_says r) }
 {
     match r {
-        Written::List(n) => WriteAnswer {
+        Ok(n) => WriteAnswer {
             number: 0,
             length: n,
         },
-        Written::Refused(n) => WriteAnswer {
+        Err(n) => WriteAnswer {
             number: n,
             length: 0,
         },

@@ -4,10 +4,9 @@ ghost use Rattle.cabac.specs.Entries as entries;
 ghost use Rattle.bulmegart.specs.Records.{engine_of, behind_state};
 ghost use Rattle.bulmegart_engine.specs.Exported.{bins_given};
 
-use bulmegart::records::{EngineState, engine_of, state_handed};
+use bulmegart::records::{EngineState, state_handed};
 use bulmegart_bins::decode::bins_answer;
 use bulmegart_engine::engine::BinsAnswer;
-use cabac::answers::Bins;
 use cabac_bypass::bypass::{decode_bypass, decode_bypass_bits, read_bits};
 
 #[unsafe(no_mangle)]
@@ -16,9 +15,9 @@ pub extern "C" fn bulmegart_decode_bypass(payload: &[u8], state: EngineState) ->
 {
     let n = state_handed(payload, state);
     if n != 0 {
-        return bins_answer(Bins::Refused(n), state);
+        return bins_answer(Err(n), state);
     }
-    bins_answer(decode_bypass(payload, engine_of(state)), state)
+    bins_answer(decode_bypass(payload, state.into()), state)
 }
 
 #[unsafe(no_mangle)]
@@ -31,9 +30,9 @@ pub extern "C" fn bulmegart_decode_bypass_bits(
 {
     let n = state_handed(payload, state);
     if n != 0 {
-        return bins_answer(Bins::Refused(n), state);
+        return bins_answer(Err(n), state);
     }
-    bins_answer(decode_bypass_bits(payload, engine_of(state), count), state)
+    bins_answer(decode_bypass_bits(payload, state.into(), count), state)
 }
 
 #[unsafe(no_mangle)]
@@ -42,7 +41,7 @@ pub extern "C" fn bulmegart_read_bits(payload: &[u8], state: EngineState, count:
 {
     let n = state_handed(payload, state);
     if n != 0 {
-        return bins_answer(Bins::Refused(n), state);
+        return bins_answer(Err(n), state);
     }
-    bins_answer(read_bits(payload, engine_of(state), count), state)
+    bins_answer(read_bits(payload, state.into(), count), state)
 }

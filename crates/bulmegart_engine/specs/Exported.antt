@@ -1,11 +1,9 @@
 -- What the engine's functions answer in C's form. After a refusal the state, and the context, are those handed in.
-use Rattle.std.specs.Prelude.{ℕ, zero, suc, ◌-◌, List, [], cond, length, eqb}
+use Rattle.std.specs.Prelude.{ℕ, zero, suc, ◌-◌, List, [], cond, length, eqb, Result, Ok, Err}
 use Rattle.bins.specs.declared.state.Engine.{Engine}
 use Rattle.bins.specs.Engine.{Decided, Drawn, bit_no}
 use Rattle.cabac.specs.Numbers.{Answer, accepted, refused, ◌or_else◌, payload_refusal, state_refusal}
 use Rattle.cabac.specs.Entries.{rest_of}
-use Rattle.cabac.specs.declared.answers.State.{State}
-use Rattle.cabac.specs.declared.answers.State.TheVariants as ofState
 use Rattle.bulmegart.specs.declared.records.EngineState.{EngineState}
 use Rattle.bulmegart_engine.specs.declared.engine.StateAnswer.{StateAnswer}
 use Rattle.bulmegart_engine.specs.declared.engine.DecisionAnswer.{DecisionAnswer}
@@ -13,9 +11,9 @@ use Rattle.bulmegart_engine.specs.declared.engine.BinsAnswer.{BinsAnswer}
 use Rattle.bulmegart_engine.specs.declared.engine.RestAnswer.{RestAnswer}
 use Rattle.bulmegart.specs.Records.{state_flags, engine_of, state_of}
 
-abbrev pub state_no : State → ℕ
-state_no (ofState.Ready e) = 0
-state_no (ofState.Refused n) = n
+abbrev pub state_no : Result Engine ℕ → ℕ
+state_no (Ok e) = 0
+state_no (Err n) = n
 
 -- ---- an answer as C has it, the state s handed in
 abbrev pub state_given : EngineState → Answer Engine → StateAnswer

@@ -1,5 +1,5 @@
 -- The rest of the payload: an answer for each way out, and that its two numbers name the rest itself. They assume nothing.
-use Rattle.std.specs.Prelude.{ℕ, zero, suc, ◌+◌, ◌-◌, ◌≤◌, ◌<◌, ◌≡◌, refl, Bool, true, false, drop, eqb}
+use Rattle.std.specs.Prelude.{ℕ, zero, suc, ◌+◌, ◌-◌, ◌≤◌, ◌<◌, ◌≡◌, refl, Bool, true, false, drop, eqb, Result, Ok, Err}
 use Rattle.std.proofs.Math.Path.{sym, subst}
 use Rattle.std.proofs.Common.{ap, ◌∙◌, arith, length-drop}
 use Rattle.std.proofs.Math.Bool.{cond}
@@ -10,8 +10,6 @@ use Rattle.std.proofs.Math.Nat.{sub-zero}
 use borrow.Author.Tests.{ne_eqb}
 use Rattle.bins.specs.declared.state.Engine.{Engine}
 use Rattle.bins.specs.Engine.{aligned_byte, byte_aligned}
-use Rattle.cabac.specs.declared.answers.State.{State}
-use Rattle.cabac.specs.declared.answers.State.TheVariants as ofState
 use Rattle.cabac.specs.Numbers.{Answer, accepted, refused, ◌or_else◌, unless, payload_refusal, state_refusal}
 use Rattle.cabac.specs.NumberLaws.{or_else_assoc, or_else_first, or_else_zero}
 use Rattle.cabac.specs.Entries.{state_says, byte_align, rest_of}
@@ -44,12 +42,12 @@ unfolding answer_no unless
 unless_number zero a = refl
 unless_number (suc k) a = refl
 
-state_number : (r : State) → state_no r ≡ answer_no (state_says r)
+state_number : (r : Result Engine ℕ) → state_no r ≡ answer_no (state_says r)
 unfolding answer_no
-state_number (ofState.Ready e) = refl
-state_number (ofState.Refused n) = refl
+state_number (Ok e) = refl
+state_number (Err n) = refl
 
-align_number : (l : List ℕ) (e : Engine) (r : State) → state_says r ≡ byte_align l e → state_no r ≡ (payload_refusal l or_else state_refusal l e)
+align_number : (l : List ℕ) (e : Engine) (r : Result Engine ℕ) → state_says r ≡ byte_align l e → state_no r ≡ (payload_refusal l or_else state_refusal l e)
 unfolding byte_align
 align_number l e r q =
     state_number r ∙ ap answer_no q ∙ unless_number (payload_refusal l or_else state_refusal l e) (byte_aligned e)
@@ -74,7 +72,7 @@ module _ (l : List ℕ) (s : EngineState) where
   unfolding rest_bytes
   rest_bytes_lem q = rest_same (rest_number l s) (rest_number_lem q)
 
-  pub rest_yes : (n m len : ℕ) (r : State) (e : Engine) (part : List ℕ)
+  pub rest_yes : (n m len : ℕ) (r : Result Engine ℕ) (e : Engine) (part : List ℕ)
       → n ≡ (payload_refusal l or_else state_flags s)
       → n ≡ 0
       → e ≡ engine_of s

@@ -5,7 +5,7 @@ ghost use Rattle.cabac.specs.Entries as entries;
 ghost use Rattle.bulmegart.specs.Records.{engine_of, no_state, behind_state};
 ghost use Rattle.bulmegart_engine.specs.Exported.{state_given, state_no};
 
-use bulmegart::records::{EngineState, engine_of, state_handed, state_of};
+use bulmegart::records::{EngineState, state_handed};
 use cabac::answers::State;
 use cabac_engine::engine::{restart, start};
 
@@ -46,11 +46,11 @@ pub fn state_answer(r: State, s: EngineState) -> StateAnswer
     ensures { result ≡ state_given s (state_says r) }
 {
     match r {
-        State::Ready(e) => StateAnswer {
+        Ok(e) => StateAnswer {
             number: 0,
-            state: state_of(e),
+            state: e.into(),
         },
-        State::Refused(n) => StateAnswer {
+        Err(n) => StateAnswer {
             number: n,
             state: s,
         },
@@ -61,8 +61,8 @@ pub fn state_number(r: State) -> u32
     ensures { result ≡ state_no r }
 {
     match r {
-        State::Ready(_) => 0,
-        State::Refused(n) => n,
+        Ok(_) => 0,
+        Err(n) => n,
     }
 }
 
@@ -92,7 +92,7 @@ pub extern "C" fn bulmegart_restart(payload: &[u8], state: EngineState) -> State
 {
     let n = state_handed(payload, state);
     if n != 0 {
-        return state_answer(State::Refused(n), state);
+        return state_answer(Err(n), state);
     }
-    state_answer(restart(payload, engine_of(state)), state)
+    state_answer(restart(payload, state.into()), state)
 }

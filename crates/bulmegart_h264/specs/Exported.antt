@@ -1,16 +1,13 @@
 -- What the functions of H.264's block answer and leave behind in C's form.
 use Prim.Native.Nat.{ℕ, zero, suc}
 use Rattle.std.specs.Prelude.{◌≡◌, List, ℤ}
-use Rattle.std.proofs.Common.{sym, ◌∙◌, arith}
+use Rattle.std.proofs.Common.{◌∙◌, arith}
 use Rattle.std.proofs.Math.Path.{ap}
 use Rattle.bins.specs.declared.state.Engine.{Engine}
 use Rattle.cabac.specs.Numbers.{Answer, accepted, refused, ◌or_else◌, payload_refusal}
 use Rattle.h264_block.specs.Entries.{FoundAt, PayloadRead, read_payload, BinsRead, read_bins, BinsWritten, write_bins}
-use Rattle.h264_reader.specs.declared.entries.Read.{Read}
-use Rattle.h264_reader.specs.declared.entries.ReadList.{ReadList}
-use Rattle.h264_reader.specs.EntriesAgree.{read_says, list_says, payload_read, bins_read}
-use Rattle.h264_writer.specs.declared.entries.Written.{Written}
-use Rattle.h264_writer.specs.EntriesPuts.{written_says, bins_written}
+use Rattle.h264_reader.specs.EntriesAgree.{Read, ReadList, read_says, list_says, payload_read, bins_read}
+use Rattle.h264_writer.specs.EntriesPuts.{Listed, written_says, bins_written}
 use Rattle.bulmegart.specs.declared.records.EngineState.{EngineState}
 use Rattle.bulmegart_blocks.specs.declared.lists.WriteAnswer.{WriteAnswer}
 use Rattle.bulmegart.specs.Records.{state_flags, engine_of, state_of}
@@ -98,6 +95,6 @@ pub list_read : (l : List ℕ) (lent : List ℤ) (r : ReadList) (lent' : List �
     → list_left a lent' ≡ read_list l lent
 list_read l lent r lent' a promise e = ap (λ x. list_left x lent') e ∙ ap list_seen promise
 
-pub list_written_lem : (lent : List ℤ) (room : List ℕ) (r : Written) (room' : List ℕ) (a : WriteAnswer) → bins_written r room' ≡ write_bins lent room → a ≡ write_given (written_says r)
+pub list_written_lem : (lent : List ℤ) (room : List ℕ) (r : Listed) (room' : List ℕ) (a : WriteAnswer) → bins_written r room' ≡ write_bins lent room → a ≡ write_given (written_says r)
     → list_written a room' ≡ write_list lent room
 list_written_lem lent room r room' a promise e = ap (λ x. list_written x room') e ∙ ap (λ (w : BinsWritten). list_written (write_given w.answer) w.room) promise

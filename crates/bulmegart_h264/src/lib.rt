@@ -9,10 +9,10 @@ ghost use Rattle.h264_reader.specs.EntriesAgree.{read_says, list_says};
 ghost use Rattle.h264_writer.specs.EntriesPuts.{written_says};
 ghost use Rattle.bulmegart_h264.specs.Exported.{block_given, list_given, block_left, list_left, list_written, read_block, read_list, write_list};
 
-use bulmegart::records::{EngineState, engine_of, state_handed, state_of};
+use bulmegart::records::{EngineState, state_handed};
 use bulmegart_blocks::lists::WriteAnswer;
 use h264_contexts::contexts::init_pairs;
-use h264_reader::entries::{Read, ReadList, read_bins, residual_block};
+use h264_reader::entries::{Found, Read, ReadList, read_bins, residual_block};
 use h264_writer::entries::{Written, write_bins};
 
 // The greatest magnitude is 0 after a refusal, and the state the one handed in.
@@ -35,12 +35,12 @@ fn block_answer(r: Read, s: EngineState) -> H264BlockAnswer
     ensures { result ≡ block_given s (read_says r) }
 {
     match r {
-        Read::Block(greatest, e) => H264BlockAnswer {
+        Ok(Found { greatest, next }) => H264BlockAnswer {
             number: 0,
             greatest,
-            state: state_of(e),
+            state: next.into(),
         },
-        Read::Refused(n) => H264BlockAnswer {
+        Err(n) => H264BlockAnswer {
             number: n,
             greatest: 0,
             state: s,
@@ -52,11 +52,11 @@ fn list_answer(r: ReadList) -> H264ListAnswer
     ensures { result ≡ list_given (list_says r) }
 {
     match r {
-        ReadList::Block(greatest) => H264ListAnswer {
+        Ok(greatest) => H264ListAnswer {
             number: 0,
             greatest,
         },
-        ReadList::Refused(n) => H264ListAnswer {
+        Err(n) => H264ListAnswer {
             number: n,
             greatest: 0,
         },
@@ -67,8 +67,8 @@ fn write_answer(r: Written) -> WriteAnswer
     ensures { result ≡ write_given (written_says r) }
 {
     match r {
-        Written::List(length) => WriteAnswer { number: 0, length },
-        Written::Refused(n) => WriteAnswer {
+        Ok(length) => WriteAnswer { number: 0, length },
+        Err(n) => WriteAnswer {
             number: n,
             length: 0,
         },
@@ -95,9 +95,9 @@ pub extern "C" fn bulmegart_h264_residual_block(
 {
     let n = state_handed(payload, state);
     if n != 0 {
-        return block_answer(Read::Refused(n), state);
+        return block_answer(Err(n), state);
     }
-    let r = residual_block(payload, engine_of(state), contexts, levels);
+    let r = residual_block(payload, state.into(), contexts, levels);
     block_answer(r, state)
 }
 

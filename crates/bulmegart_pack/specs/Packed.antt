@@ -1,13 +1,11 @@
 -- What the entry points that pack answer and leave behind in C's form.
 use Prim.Native.Nat.{ℕ, zero, suc}
-use Rattle.std.specs.Prelude.{◌≡◌, List}
+use Rattle.std.specs.Prelude.{◌≡◌, List, Result, Ok, Err}
 use Rattle.std.proofs.Math.Path.{refl, ap}
 use Rattle.std.proofs.Common.{sym, ◌∙◌, arith}
 use Rattle.cabac.specs.Numbers.{Answer, accepted, refused}
 use Rattle.hevc_residual.specs.declared.params.Params.{Params}
 use Rattle.packing.specs.Entries.{BinsPacked}
-use Rattle.packer.specs.declared.list.Packing.{Packing}
-use Rattle.packer.specs.declared.list.Packing.TheVariants as packing
 use Rattle.packer.specs.IntoCode.{packing_says}
 use Rattle.hevc_packer.specs.Entries.{pack_bins}
 use Rattle.bulmegart.specs.declared.records.BlockParams.{BlockParams}
@@ -15,9 +13,9 @@ use Rattle.bulmegart_blocks.specs.declared.lists.WriteAnswer.{WriteAnswer}
 use Rattle.bulmegart.specs.Records.{params_flags, params_of}
 use Rattle.bulmegart_blocks.specs.Lists.{write_given}
 
-abbrev pub packing_answer : Packing → Answer ℕ
-packing_answer (packing.Payload n) = accepted n
-packing_answer (packing.Refused n) = refused n
+abbrev pub packing_answer : Result ℕ ℕ → Answer ℕ
+packing_answer (Ok n) = accepted n
+packing_answer (Err n) = refused n
 
 pub record PackLeft : Type 0 where
   pub answer : WriteAnswer
@@ -38,11 +36,11 @@ unfoldable pub pack_block : List ℕ → List ℕ → BlockParams → List ℕ �
 pack_block contexts stats p list room = pack_block_by (params_flags p) contexts stats p list room
 
 -- ---- as the code has it
-pub answer_seen : (r : Packing) (room : List ℕ) → pack_left (write_given (packing_answer r)) room ≡ pack_seen (packing_says r room)
-answer_seen (packing.Payload n) room = refl
-answer_seen (packing.Refused n) room = refl
+pub answer_seen : (r : Result ℕ ℕ) (room : List ℕ) → pack_left (write_given (packing_answer r)) room ≡ pack_seen (packing_says r room)
+answer_seen (Ok n) room = refl
+answer_seen (Err n) room = refl
 
-pub seen : (a : WriteAnswer) (r : Packing) (room : List ℕ) (x : BinsPacked) → a ≡ write_given (packing_answer r) → packing_says r room ≡ x → pack_left a room ≡ pack_seen x
+pub seen : (a : WriteAnswer) (r : Result ℕ ℕ) (room : List ℕ) (x : BinsPacked) → a ≡ write_given (packing_answer r) → packing_says r room ≡ x → pack_left a room ≡ pack_seen x
 seen a r room x p q = ap (λ z. pack_left z room) p ∙ answer_seen r room ∙ ap pack_seen q
 
 module _ (contexts stats : List ℕ) (p : BlockParams) (list room : List ℕ) where
@@ -54,7 +52,7 @@ module _ (contexts stats : List ℕ) (p : BlockParams) (list room : List ℕ) wh
       go zero h = absurd (h refl)
       go (suc n) h = refl
 
-  pub pack_yes : (n : ℕ) (a : WriteAnswer) (r : Packing) (q : Params) (room' : List ℕ) → n ≡ params_flags p → n ≡ 0 → q ≡ params_of p
+  pub pack_yes : (n : ℕ) (a : WriteAnswer) (r : Result ℕ ℕ) (q : Params) (room' : List ℕ) → n ≡ params_flags p → n ≡ 0 → q ≡ params_of p
       → packing_says r room' ≡ pack_bins contexts stats q list room → a ≡ write_given (packing_answer r) → pack_left a room' ≡ pack_block contexts stats p list room
   unfolding pack_block pack_block_by
   pack_yes n a r q room' e z eq promise ea =

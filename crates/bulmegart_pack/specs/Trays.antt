@@ -1,8 +1,6 @@
 -- What a tray packed answers and leaves behind in C's form.
-use Rattle.std.specs.Prelude.{ℕ, ◌≡◌, refl, List}
+use Rattle.std.specs.Prelude.{ℕ, ◌≡◌, refl, List, Result, Ok, Err}
 use Rattle.std.proofs.Common.{ap, ◌∙◌}
-use Rattle.packer.specs.declared.list.Packing.{Packing}
-use Rattle.packer.specs.declared.list.Packing.TheVariants as packing
 use Rattle.packer.specs.IntoCode.{packing_says}
 use Rattle.hevc_tray_packer.specs.declared.entries.TrayPacking.{TrayPacking}
 use Rattle.hevc_tray_packer.specs.Rows.{TrayPacked}
@@ -27,9 +25,9 @@ abbrev pub tray_seen : TrayPacked → TrayLeft
 tray_seen t = tray_left (counted t.done (write_given t.packed.answer)) t.packed.room
 
 -- ---- as the code has it
-said : (done : ℕ) (p : Packing) (room : List ℕ) → tray_left (counted done (write_given (packing_answer p))) room ≡ tray_seen (record { done = done; packed = packing_says p room })
-said done (packing.Payload n) room = refl
-said done (packing.Refused n) room = refl
+said : (done : ℕ) (p : Result ℕ ℕ) (room : List ℕ) → tray_left (counted done (write_given (packing_answer p))) room ≡ tray_seen (record { done = done; packed = packing_says p room })
+said done (Ok n) room = refl
+said done (Err n) room = refl
 
 pub tray_seen_lem : (t : TrayPacking) (a : WriteAnswer) (room : List ℕ) (x : TrayPacked) → a ≡ write_given (packing_answer t.packing) → tray_says t room ≡ x
     → tray_left (counted t.done a) room ≡ tray_seen x

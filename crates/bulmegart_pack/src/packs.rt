@@ -5,7 +5,7 @@ ghost use Rattle.hevc_packer.specs.Entries.{pack_scale};
 ghost use Rattle.bulmegart_pack.specs.Packed.{packing_answer, pack_left, pack_seen, pack_block};
 
 use bins::tags::CONTEXTS;
-use bulmegart::records::{BlockParams, params_flags, params_of};
+use bulmegart::records::{BlockParams, params_flags};
 use bulmegart_blocks::lists::WriteAnswer;
 use hevc_block_packer::entries::pack_bins;
 use hevc_packer::entries::pack_scale;
@@ -15,11 +15,11 @@ pub fn pack_answer(r: Packing) -> WriteAnswer
     ensures { result ≡ write_given (packing_answer r) }
 {
     match r {
-        Packing::Payload(n) => WriteAnswer {
+        Ok(n) => WriteAnswer {
             number: 0,
             length: n,
         },
-        Packing::Refused(n) => WriteAnswer {
+        Err(n) => WriteAnswer {
             number: n,
             length: 0,
         },
@@ -39,9 +39,9 @@ pub extern "C" fn bulmegart_pack_bins(
 {
     let n = params_flags(params);
     if n != 0 {
-        return pack_answer(Packing::Refused(n));
+        return pack_answer(Err(n));
     }
-    let r = pack_bins(contexts, statistics, params_of(params), list, room);
+    let r = pack_bins(contexts, statistics, params.into(), list, room);
     pack_answer(r)
 }
 

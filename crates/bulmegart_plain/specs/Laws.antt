@@ -1,18 +1,15 @@
 -- Laws of the plain functions: an answer for each way out. They assume nothing.
 use Prim.Native.Nat.{ℕ, zero, suc}
-use Rattle.std.specs.Prelude.{◌≡◌, List, Bool, ℤ}
+use Rattle.std.specs.Prelude.{◌≡◌, List, Bool, ℤ, Result, Ok, Err}
 use Rattle.std.proofs.Math.Path.{refl, sym, ap}
 use Rattle.std.proofs.Common.{◌∙◌, arith}
 use Rattle.bins.specs.declared.state.Engine.{Engine}
 use Rattle.cabac.specs.Numbers.{Answer, refused, ◌or_else◌, payload_refusal}
 use Rattle.hevc_residual.specs.declared.params.Params.{Params}
 use Rattle.hevc_residual.specs.declared.params.Rdpcm.{Rdpcm}
-use Rattle.hevc_residual.specs.declared.answers.Read.{Read}
-use Rattle.hevc_residual.specs.declared.answers.Read.TheVariants as read
-use Rattle.hevc_residual.specs.declared.answers.ReadList.{ReadList}
-use Rattle.hevc_residual.specs.declared.answers.ReadList.TheVariants as readlist
+use Rattle.hevc_residual.specs.declared.answers.ReadBlock.{ReadBlock}
+use Rattle.hevc_residual.specs.declared.answers.Found as code
 use Rattle.hevc_residual.specs.Answers.{payload_read, bins_read}
-use Rattle.hevc_residual.specs.declared.answers.Written.{Written}
 use Rattle.hevc_residual.specs.Answers.{written_says, bins_written}
 use Rattle.hevc_plain.specs.Plain.{read_plain, read_plain_bins, write_plain, plain_record}
 use Rattle.bulmegart.specs.declared.records.EngineState.{EngineState}
@@ -28,10 +25,10 @@ use Rattle.bulmegart_plain.specs.declared.plain.ParamsAnswer.{ParamsAnswer}
 use Rattle.bulmegart_plain.specs.Plain.{read_plain_block_by, read_plain_block, read_plain_list_by, read_plain_list, write_plain_block_by, write_plain_block, record_given, record_flags, plain_params}
 
 -- ---- the payload reader
-block_seen_lem : (s : EngineState) (r : Read) (cs stats : List ℕ) (b : List ℤ)
+block_seen_lem : (s : EngineState) (r : Result ReadBlock ℕ) (cs stats : List ℕ) (b : List ℤ)
     → block_seen s (payload_read r cs stats b) ≡ block_left (block_given s (read_says r)) cs stats b
-block_seen_lem s (read.Block f e) cs stats b = refl
-block_seen_lem s (read.Refused n) cs stats b = refl
+block_seen_lem s (Ok f) cs stats b = refl
+block_seen_lem s (Err n) cs stats b = refl
 
 module _ (l : List ℕ) (s : EngineState) (cs stats : List ℕ) (p : BlockParams) (block : List ℤ) (n : ℕ) (a : BlockAnswer) where
   by_no : (k : ℕ) → n ≡ k → (n ≡ 0 → ⊥) → a ≡ block_given s (refused n) → block_left a cs stats block ≡ read_plain_block_by k l s cs stats p block
@@ -44,7 +41,7 @@ module _ (l : List ℕ) (s : EngineState) (cs stats : List ℕ) (p : BlockParams
   unfolding read_plain_block
   block_no q h e = by_no (payload_refusal l or_else state_flags s or_else params_flags p) q h e
 
-  by_yes : (k : ℕ) (r : Read) (e : Engine) (params : Params) (cs' stats' : List ℕ) (block' : List ℤ)
+  by_yes : (k : ℕ) (r : Result ReadBlock ℕ) (e : Engine) (params : Params) (cs' stats' : List ℕ) (block' : List ℤ)
       → n ≡ k → n ≡ 0 → e ≡ engine_of s → params ≡ params_of p
       → payload_read r cs' stats' block' ≡ read_plain l e cs stats params block
       → a ≡ block_given s (read_says r)
@@ -56,7 +53,7 @@ module _ (l : List ℕ) (s : EngineState) (cs stats : List ℕ) (p : BlockParams
       ∙ ap (λ (x : Params). block_seen s (read_plain l (engine_of s) cs stats x block)) w
   by_yes (suc k) r e params cs' stats' block' q z h w t g = absurd (omega arith)
 
-  pub block_yes : (r : Read) (e : Engine) (params : Params) (cs' stats' : List ℕ) (block' : List ℤ)
+  pub block_yes : (r : Result ReadBlock ℕ) (e : Engine) (params : Params) (cs' stats' : List ℕ) (block' : List ℤ)
       → n ≡ (payload_refusal l or_else state_flags s or_else params_flags p) → n ≡ 0 → e ≡ engine_of s → params ≡ params_of p
       → payload_read r cs' stats' block' ≡ read_plain l e cs stats params block
       → a ≡ block_given s (read_says r)
@@ -65,9 +62,9 @@ module _ (l : List ℕ) (s : EngineState) (cs stats : List ℕ) (p : BlockParams
   block_yes = by_yes (payload_refusal l or_else state_flags s or_else params_flags p)
 
 -- ---- the bin reader
-list_seen_lem : (r : ReadList) (stats : List ℕ) (b : List ℤ) → list_seen (bins_read r stats b) ≡ list_left (list_given (list_says r)) stats b
-list_seen_lem (readlist.Block f) stats b = refl
-list_seen_lem (readlist.Refused n) stats b = refl
+list_seen_lem : (r : Result code.Found ℕ) (stats : List ℕ) (b : List ℤ) → list_seen (bins_read r stats b) ≡ list_left (list_given (list_says r)) stats b
+list_seen_lem (Ok f) stats b = refl
+list_seen_lem (Err n) stats b = refl
 
 module _ (l stats : List ℕ) (p : BlockParams) (block : List ℤ) (n : ℕ) (a : ListAnswer) where
   list_by_no : (k : ℕ) → n ≡ k → (n ≡ 0 → ⊥) → a ≡ list_given (refused n) → list_left a stats block ≡ read_plain_list_by k l stats p block
@@ -79,7 +76,7 @@ module _ (l stats : List ℕ) (p : BlockParams) (block : List ℤ) (n : ℕ) (a 
   unfolding read_plain_list
   list_no_lem = list_by_no (params_flags p)
 
-  list_by_yes : (k : ℕ) (r : ReadList) (params : Params) (stats' : List ℕ) (block' : List ℤ)
+  list_by_yes : (k : ℕ) (r : Result code.Found ℕ) (params : Params) (stats' : List ℕ) (block' : List ℤ)
       → n ≡ k → n ≡ 0 → params ≡ params_of p
       → bins_read r stats' block' ≡ read_plain_bins l stats params block
       → a ≡ list_given (list_says r)
@@ -90,7 +87,7 @@ module _ (l stats : List ℕ) (p : BlockParams) (block : List ℤ) (n : ℕ) (a 
       ∙ ap (λ (x : Params). list_seen (read_plain_bins l stats x block)) w
   list_by_yes (suc k) r params stats' block' q z w t g = absurd (omega arith)
 
-  pub list_yes : (r : ReadList) (params : Params) (stats' : List ℕ) (block' : List ℤ)
+  pub list_yes : (r : Result code.Found ℕ) (params : Params) (stats' : List ℕ) (block' : List ℤ)
       → n ≡ params_flags p → n ≡ 0 → params ≡ params_of p
       → bins_read r stats' block' ≡ read_plain_bins l stats params block
       → a ≡ list_given (list_says r)
@@ -109,7 +106,7 @@ module _ (p : BlockParams) (stats : List ℕ) (block : List ℤ) (skip choice : 
       go zero h = absurd (h refl)
       go (suc n) h = refl
 
-  pub write_yes : (n : ℕ) (a : WriteAnswer) (r : Written) (q : Params) (s : Bool) (c : Rdpcm) (stats' room' : List ℕ)
+  pub write_yes : (n : ℕ) (a : WriteAnswer) (r : Result ℕ ℕ) (q : Params) (s : Bool) (c : Rdpcm) (stats' room' : List ℕ)
       → n ≡ (params_flags p or_else flag_refusal skip or_else choice_refusal choice) → n ≡ 0 → q ≡ params_of p → s ≡ is_set skip → c ≡ choice_of choice
       → bins_written r stats' room' ≡ write_plain q stats block s c room → a ≡ write_given (written_says r)
       → write_left a stats' room' ≡ write_plain_block p stats block skip choice room

@@ -4,7 +4,7 @@ ghost use Rattle.hevc_plain_checks.specs.Record.{made_says};
 ghost use Rattle.bulmegart_plain.specs.Plain.{params_given, record_flags, record_given, plain_params};
 
 use bulmegart::records::{BlockParams, flag_byte, flag_refusal, is_set, or_else};
-use hevc_plain_checks::record::{Made, plain_params};
+use hevc_plain_checks::record::plain_params;
 use hevc_residual::params::Params;
 
 // A plain record, all zeros after a refusal.
@@ -36,15 +36,15 @@ fn params_given(p: Params) -> BlockParams
     }
 }
 
-fn params_answer(r: Made) -> ParamsAnswer
+fn params_answer(r: Result<Params, u32>) -> ParamsAnswer
     ensures { result ≡ record_given (made_says r) }
 {
     match r {
-        Made::Record(p) => ParamsAnswer {
+        Ok(p) => ParamsAnswer {
             number: 0,
             params: params_given(p),
         },
-        Made::Refused(n) => ParamsAnswer {
+        Err(n) => ParamsAnswer {
             number: n,
             params: BlockParams {
                 log2: 0,
@@ -91,7 +91,7 @@ pub extern "C" fn bulmegart_plain_params(
 {
     let n = record_flags(luma, hiding, skip_allowed, lossless, inter);
     if n != 0 {
-        return params_answer(Made::Refused(n));
+        return params_answer(Err(n));
     }
     let r = plain_params(
         log2,

@@ -3,10 +3,9 @@ ghost use Rattle.std.specs.Prelude.{◌≡◌};
 ghost use Rattle.bulmegart_blocks.specs.Blocks.{list_left};
 ghost use Rattle.bulmegart_plain.specs.Plain.{read_plain_list};
 
-use bulmegart::records::{BlockParams, params_flags, params_of};
+use bulmegart::records::{BlockParams, params_flags};
 use bulmegart_blocks::blocks::{ListAnswer, list_answer};
 use hevc_plain_coding::entries::read_bins_plain;
-use hevc_residual::answers::ReadList;
 
 // One plain block from a bin list, which it must end.
 #[unsafe(no_mangle)]
@@ -20,8 +19,8 @@ pub extern "C" fn bulmegart_read_bins_plain(
 {
     let n = params_flags(params);
     if n != 0 {
-        return list_answer(ReadList::Refused(n));
+        return list_answer(Err(n));
     }
-    let r = read_bins_plain(list, statistics, params_of(params), levels);
+    let r = read_bins_plain(list, statistics, params.into(), levels);
     list_answer(r)
 }

@@ -4,10 +4,9 @@ ghost use Rattle.bulmegart_blocks.specs.Blocks.{block_left};
 ghost use Rattle.bulmegart_plain.specs.Plain.{read_plain_block};
 
 use bins::tags::CONTEXTS;
-use bulmegart::records::{BlockParams, EngineState, block_handed, engine_of, params_of};
+use bulmegart::records::{BlockParams, EngineState, block_handed};
 use bulmegart_blocks::blocks::{BlockAnswer, block_answer};
 use hevc_plain_coding::entries::residual_coding_plain;
-use hevc_residual::answers::Read;
 
 // One plain block from a payload.
 #[unsafe(no_mangle)]
@@ -23,14 +22,14 @@ pub extern "C" fn bulmegart_residual_coding_plain(
 {
     let n = block_handed(payload, state, params);
     if n != 0 {
-        return block_answer(Read::Refused(n), state);
+        return block_answer(Err(n), state);
     }
     let r = residual_coding_plain(
         payload,
-        engine_of(state),
+        state.into(),
         contexts,
         statistics,
-        params_of(params),
+        params.into(),
         levels,
     );
     block_answer(r, state)

@@ -3,10 +3,9 @@ ghost use Rattle.std.specs.Prelude.{◌≡◌};
 ghost use Rattle.bulmegart_blocks.specs.Lists.{write_left};
 ghost use Rattle.bulmegart_plain.specs.Plain.{write_plain_block};
 
-use bulmegart::records::{BlockParams, is_set, params_of};
+use bulmegart::records::{BlockParams, is_set};
 use bulmegart_blocks::lists::{WriteAnswer, choice_of, write_answer, write_handed};
 use hevc_plain_writer::entries::write_bins_plain;
-use hevc_residual::answers::Written;
 
 // One plain block as a bin list in the room.
 #[unsafe(no_mangle)]
@@ -22,10 +21,10 @@ pub extern "C" fn bulmegart_write_bins_plain(
 {
     let n = write_handed(params, skip, rdpcm);
     if n != 0 {
-        return write_answer(Written::Refused(n));
+        return write_answer(Err(n));
     }
     let r = write_bins_plain(
-        params_of(params),
+        params.into(),
         statistics,
         levels,
         is_set(skip),

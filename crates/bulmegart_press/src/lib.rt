@@ -20,8 +20,8 @@ fn answer_of(p: Pressed) -> PressAnswer
     ensures { result ≡ answer_of p }
 {
     match p {
-        Pressed::Frame(length) => PressAnswer { number: 0, length },
-        Pressed::No(number) => PressAnswer { number, length: 0 },
+        Ok(length) => PressAnswer { number: 0, length },
+        Err(number) => PressAnswer { number, length: 0 },
     }
 }
 

@@ -5,7 +5,7 @@ ghost use Rattle.std.specs.Prelude.{◌≡◌};
 ghost use Rattle.bulmegart_reached.specs.Handed.{reached_handed};
 
 use bins::tags::CONTEXTS;
-use bulmegart::records::{BlockParams, EngineState, block_handed, engine_of, params_of, state_of};
+use bulmegart::records::{BlockParams, EngineState, block_handed};
 use hevc_reached::entries::reached;
 
 // The state reached, and the bits past the end that the call drew. Where a check refuses the call: the state handed in, and 0.
@@ -33,15 +33,15 @@ pub extern "C" fn bulmegart_reached(
     }
     let r = reached(
         payload,
-        engine_of(state),
+        state.into(),
         contexts,
         statistics,
-        params_of(params),
+        params.into(),
         levels,
     );
     let e = r.state;
     ReachedAnswer {
-        state: state_of(e),
+        state: e.into(),
         past: r.past,
     }
 }

@@ -3,12 +3,9 @@ ghost use Rattle.std.specs.Prelude.{◌≡◌};
 ghost use Rattle.bulmegart_blocks.specs.Blocks.{block_left, list_left, read_block, read_list};
 
 use bins::tags::CONTEXTS;
-use bulmegart::records::{
-    BlockParams, EngineState, block_handed, engine_of, params_flags, params_of,
-};
+use bulmegart::records::{BlockParams, EngineState, block_handed, params_flags};
 use bulmegart_blocks::blocks::{BlockAnswer, ListAnswer, block_answer, list_answer};
 use hevc_reader::entries::{read_bins, residual_coding};
-use hevc_residual::answers::{Read, ReadList};
 
 // One block from a payload.
 #[unsafe(no_mangle)]
@@ -24,14 +21,14 @@ pub extern "C" fn bulmegart_residual_coding(
 {
     let n = block_handed(payload, state, params);
     if n != 0 {
-        return block_answer(Read::Refused(n), state);
+        return block_answer(Err(n), state);
     }
     let r = residual_coding(
         payload,
-        engine_of(state),
+        state.into(),
         contexts,
         statistics,
-        params_of(params),
+        params.into(),
         levels,
     );
     block_answer(r, state)
@@ -49,8 +46,8 @@ pub extern "C" fn bulmegart_read_bins(
 {
     let n = params_flags(params);
     if n != 0 {
-        return list_answer(ReadList::Refused(n));
+        return list_answer(Err(n));
     }
-    let r = read_bins(list, statistics, params_of(params), levels);
+    let r = read_bins(list, statistics, params.into(), levels);
     list_answer(r)
 }

@@ -12,11 +12,11 @@ fn scale_list_answer(r: ReadList) -> ScaleListAnswer
     ensures { result ≡ scale_list_given (bins_read r) }
 {
     match r {
-        ReadList::Scale(z) => ScaleListAnswer {
+        Ok(z) => ScaleListAnswer {
             number: 0,
             scale: z,
         },
-        ReadList::Refused(n) => ScaleListAnswer {
+        Err(n) => ScaleListAnswer {
             number: n,
             scale: 0,
         },

@@ -1,15 +1,13 @@
 -- What the scale's functions answer and leave behind in C's form.
 use Prim.Native.Nat.{ℕ, zero, suc}
-use Rattle.std.specs.Prelude.{◌≡◌, List, ℤ, pos}
+use Rattle.std.specs.Prelude.{◌≡◌, List, ℤ, pos, Result}
 use Rattle.std.proofs.Common.{sym, ◌∙◌, arith}
 use Rattle.std.proofs.Math.Path.{ap}
 use Rattle.bins.specs.declared.state.Engine.{Engine}
 use Rattle.cabac.specs.Numbers.{Answer, accepted, refused, ◌or_else◌, payload_refusal}
 use Rattle.hevc_cross.specs.Entries.{ScaleAt, PayloadRead, read_payload, read_bins, BinsWritten, write_bins}
-use Rattle.hevc_residual.specs.declared.answers.Written.{Written}
 use Rattle.hevc_residual.specs.Answers.{written_says}
-use Rattle.hevc_scale.specs.declared.entries.Read.{Read}
-use Rattle.hevc_scale.specs.EntriesAgree.{read_says, payload_read, bins_written}
+use Rattle.hevc_scale.specs.EntriesAgree.{Read, read_says, payload_read, bins_written}
 use Rattle.bulmegart.specs.declared.records.EngineState.{EngineState}
 use Rattle.bulmegart_blocks.specs.declared.lists.WriteAnswer.{WriteAnswer}
 use Rattle.bulmegart_scales.specs.declared.scales.ScaleAnswer.{ScaleAnswer}
@@ -83,7 +81,7 @@ module _ (l : List ℕ) (s : EngineState) (cs : List ℕ) (c n : ℕ) (a : Scale
   scale_yes = by_yes (payload_refusal l or_else state_flags s)
 
 -- y is the scale as it was handed on
-pub scale_written_lem : (c : ℕ) (z y : ℤ) (room : List ℕ) (r : Written) (room' : List ℕ) (a : WriteAnswer)
+pub scale_written_lem : (c : ℕ) (z y : ℤ) (room : List ℕ) (r : Result ℕ ℕ) (room' : List ℕ) (a : WriteAnswer)
     → y ≡ z → bins_written r room' ≡ write_bins c y room → a ≡ write_given (written_says r) → scale_written a room' ≡ write_scale c z room
 scale_written_lem c z y room r room' a same promise e =
     ap (λ x. scale_written x room') e

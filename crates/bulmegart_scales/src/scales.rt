@@ -4,8 +4,8 @@ ghost use Rattle.hevc_scale.specs.EntriesAgree.{read_says};
 ghost use Rattle.bulmegart_scales.specs.Scales.{scale_given, scale_left, read_scale};
 
 use bins::tags::CONTEXTS;
-use bulmegart::records::{EngineState, engine_of, state_handed, state_of};
-use hevc_scale::entries::{Read, read_scale};
+use bulmegart::records::{EngineState, state_handed};
+use hevc_scale::entries::{FoundScale, Read, read_scale};
 
 #[repr(C)]
 #[derive(Clone, Copy)]
@@ -26,12 +26,12 @@ fn scale_answer(r: Read, s: EngineState) -> ScaleAnswer
     ensures { result ≡ scale_given s (read_says r) }
 {
     match r {
-        Read::Scale(z, e) => ScaleAnswer {
+        Ok(FoundScale { scale, next }) => ScaleAnswer {
             number: 0,
-            scale: z,
-            state: state_of(e),
+            scale,
+            state: next.into(),
         },
-        Read::Refused(n) => ScaleAnswer {
+        Err(n) => ScaleAnswer {
             number: n,
             scale: 0,
             state: s,
@@ -51,8 +51,8 @@ pub extern "C" fn bulmegart_read_scale(
 {
     let n = state_handed(payload, state);
     if n != 0 {
-        return scale_answer(Read::Refused(n), state);
+        return scale_answer(Err(n), state);
     }
-    let r = read_scale(payload, engine_of(state), contexts, component);
+    let r = read_scale(payload, state.into(), contexts, component);
     scale_answer(r, state)
 }

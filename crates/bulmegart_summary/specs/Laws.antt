@@ -1,15 +1,13 @@
 -- The ways out of the readers into a kept block. Assumes nothing.
 use Prim.Native.Nat.{ℕ, zero, suc}
-use Rattle.std.specs.Prelude.{◌≡◌, refl, List, ℤ}
+use Rattle.std.specs.Prelude.{◌≡◌, refl, List, ℤ, Result, Ok, Err}
 use Rattle.std.proofs.Common.{sym, ◌∙◌, arith}
 use Rattle.std.proofs.Math.Path.{ap}
 use Rattle.bins.specs.declared.state.Engine.{Engine}
 use Rattle.cabac.specs.Numbers.{refused, ◌or_else◌, payload_refusal}
 use Rattle.hevc_residual.specs.declared.params.Params.{Params}
-use Rattle.hevc_residual.specs.declared.answers.Read.{Read}
-use Rattle.hevc_residual.specs.declared.answers.Read.TheVariants as read
-use Rattle.hevc_residual.specs.declared.answers.ReadList.{ReadList}
-use Rattle.hevc_residual.specs.declared.answers.ReadList.TheVariants as readlist
+use Rattle.hevc_residual.specs.declared.answers.ReadBlock.{ReadBlock}
+use Rattle.hevc_residual.specs.declared.answers.Found as code
 use Rattle.bulmegart.specs.declared.records.EngineState.{EngineState}
 use Rattle.bulmegart.specs.declared.records.BlockParams.{BlockParams}
 use Rattle.bulmegart_blocks.specs.declared.blocks.BlockAnswer.{BlockAnswer}
@@ -26,11 +24,11 @@ use Rattle.hevc_summary.specs.Agree.{kept_of, kept_read, kept_list}
 use Rattle.bulmegart_summary.specs.Readers.{BlockLeft, block_left, block_seen, read_block_by, read_block, ListLeft, list_left, list_seen, read_list_by, read_list}
 
 -- ---- from a payload
-block_seen_lem : (s : EngineState) (r : Read) (w : Whole) (cs stats : List ℕ) (levels : List ℤ) (counts sums : List ℕ)
+block_seen_lem : (s : EngineState) (r : Result ReadBlock ℕ) (w : Whole) (cs stats : List ℕ) (levels : List ℤ) (counts sums : List ℕ)
     → block_left (record { block = block_given s (read_says r); whole = w }) cs stats levels counts sums
     ≡ block_seen s (kept_read (record { read = r; whole = w }) cs stats levels counts sums)
-block_seen_lem s (read.Block f e) w cs stats levels counts sums = refl
-block_seen_lem s (read.Refused n) w cs stats levels counts sums = refl
+block_seen_lem s (Ok f) w cs stats levels counts sums = refl
+block_seen_lem s (Err n) w cs stats levels counts sums = refl
 
 module _ (f : Form) (l : List ℕ) (s : EngineState) (cs stats : List ℕ) (p : BlockParams) (levels : List ℤ) (counts sums : List ℕ) (w : Whole) (n : ℕ) (a : BlockAnswer) where
   abbrev checks : ℕ
@@ -63,10 +61,10 @@ module _ (f : Form) (l : List ℕ) (s : EngineState) (cs stats : List ℕ) (p : 
       go (suc k) v = absurd (omega arith)
 
 -- ---- from a bin list
-list_seen_lem : (r : ReadList) (w : Whole) (stats : List ℕ) (levels : List ℤ) (counts sums : List ℕ)
+list_seen_lem : (r : Result code.Found ℕ) (w : Whole) (stats : List ℕ) (levels : List ℤ) (counts sums : List ℕ)
     → list_left (record { list = list_given (list_says r); whole = w }) stats levels counts sums ≡ list_seen (kept_list (record { read = r; whole = w }) stats levels counts sums)
-list_seen_lem (readlist.Block f) w stats levels counts sums = refl
-list_seen_lem (readlist.Refused n) w stats levels counts sums = refl
+list_seen_lem (Ok f) w stats levels counts sums = refl
+list_seen_lem (Err n) w stats levels counts sums = refl
 
 module _ (f : Form) (l stats : List ℕ) (p : BlockParams) (levels : List ℤ) (counts sums : List ℕ) (w : Whole) (n : ℕ) (a : ListAnswer) where
   pub list_no_lem : n ≡ params_flags p → (n ≡ 0 → ⊥) → a ≡ list_given (refused n)

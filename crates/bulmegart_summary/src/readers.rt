@@ -4,12 +4,9 @@ ghost use Rattle.hevc_summary.specs.Agree.{kept_of};
 ghost use Rattle.bulmegart_summary.specs.Readers.{block_left, list_left, read_block, read_list};
 
 use bins::tags::CONTEXTS;
-use bulmegart::records::{
-    BlockParams, EngineState, block_handed, engine_of, params_flags, params_of,
-};
+use bulmegart::records::{BlockParams, EngineState, block_handed, params_flags};
 use bulmegart_blocks::blocks::{BlockAnswer, ListAnswer, block_answer, list_answer};
 use hevc_kept_reader::reading::{read_kept, read_kept_bins};
-use hevc_residual::answers::{Read, ReadList};
 use hevc_summary::kept::{Form, Whole};
 
 // A reader's answer, and the record of the whole behind it.
@@ -45,15 +42,15 @@ pub extern "C" fn bulmegart_read_kept(
 {
     let n = block_handed(payload, state, params);
     if n != 0 {
-        let no = block_answer(Read::Refused(n), state);
+        let no = block_answer(Err(n), state);
         return KeptBlockAnswer { block: no, whole };
     }
     let r = read_kept(
         payload,
-        engine_of(state),
+        state.into(),
         contexts,
         statistics,
-        params_of(params),
+        params.into(),
         levels,
         counts,
         sums,
@@ -85,13 +82,13 @@ pub extern "C" fn bulmegart_read_kept_bins(
 {
     let n = params_flags(params);
     if n != 0 {
-        let no = list_answer(ReadList::Refused(n));
+        let no = list_answer(Err(n));
         return KeptListAnswer { list: no, whole };
     }
     let r = read_kept_bins(
         list,
         statistics,
-        params_of(params),
+        params.into(),
         levels,
         counts,
         sums,

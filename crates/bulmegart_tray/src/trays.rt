@@ -3,7 +3,7 @@ ghost use Rattle.std.specs.Prelude.{◌≡◌};
 ghost use Rattle.bulmegart_tray.specs.Trays.{tray_answered, tray_left, tray_read};
 
 use bins::tags::CONTEXTS;
-use bulmegart::records::{EngineState, engine_of, state_handed, state_of};
+use bulmegart::records::{EngineState, state_handed};
 use hevc_tray::entries::Tray;
 use hevc_tray_reader::entries::read_tray;
 
@@ -22,7 +22,7 @@ fn tray_answer(t: Tray) -> TrayAnswer
     TrayAnswer {
         number: t.number,
         done: t.done,
-        state: state_of(e),
+        state: e.into(),
     }
 }
 
@@ -56,7 +56,7 @@ pub extern "C" fn bulmegart_read_tray(
     }
     let t = read_tray(
         payload,
-        engine_of(state),
+        state.into(),
         contexts,
         statistics,
         records,

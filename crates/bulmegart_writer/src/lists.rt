@@ -2,9 +2,8 @@
 ghost use Rattle.std.specs.Prelude.{◌≡◌};
 ghost use Rattle.bulmegart_blocks.specs.Lists.{write_left, write_block};
 
-use bulmegart::records::{BlockParams, is_set, params_of};
+use bulmegart::records::{BlockParams, is_set};
 use bulmegart_blocks::lists::{WriteAnswer, choice_of, write_answer, write_handed};
-use hevc_residual::answers::Written;
 use hevc_writer::entries::write_bins;
 
 // One block as a bin list in the room.
@@ -21,10 +20,10 @@ pub extern "C" fn bulmegart_write_bins(
 {
     let n = write_handed(params, skip, rdpcm);
     if n != 0 {
-        return write_answer(Written::Refused(n));
+        return write_answer(Err(n));
     }
     let r = write_bins(
-        params_of(params),
+        params.into(),
         statistics,
         levels,
         is_set(skip),

@@ -1,12 +1,8 @@
 -- What each entry point of the engine answers, for everything that it can be handed. Refusals come in document 01's order.
-use Rattle.std.specs.Prelude.{ℕ, zero, suc, min, List, [], Bool, cond, length, drop, replicate, eqb}
+use Rattle.std.specs.Prelude.{ℕ, zero, suc, min, List, [], cond, length, drop, replicate, eqb, Result, Ok, Err}
 use Rattle.bins.specs.declared.state.Engine.{Engine}
-use Rattle.cabac.specs.declared.answers.State.{State}
-use Rattle.cabac.specs.declared.answers.State.TheVariants as ofState
-use Rattle.cabac.specs.declared.answers.Decision.{Decision}
-use Rattle.cabac.specs.declared.answers.Decision.TheVariants as ofDecision
-use Rattle.cabac.specs.declared.answers.Bins.{Bins}
-use Rattle.cabac.specs.declared.answers.Bins.TheVariants as ofBins
+use Rattle.cabac.specs.declared.answers.DecidedBin.{DecidedBin}
+use Rattle.cabac.specs.declared.answers.ReadBins.{ReadBins}
 use Rattle.bins.specs.declared.state.Taken.{Taken}
 use Rattle.bins.specs.declared.fetch.Drawn as fetch
 use Rattle.bins.specs.Bits.{ends, added}
@@ -17,17 +13,17 @@ use Rattle.bins.specs.Engine.{Decided, Drawn, fetched, started, decided, bypasse
 use Rattle.cabac.specs.Numbers.{Answer, accepted, refused, ◌or_else◌, unless, payload_refusal, state_refusal, context_refusal, count_refusal, offset_refusal, ended_refusal, alignment_refusal}
 
 -- ---- what the code's answers say: document 01's number, 0 with the values
-abbrev pub state_says : State → Answer Engine
-state_says (ofState.Ready e) = accepted e
-state_says (ofState.Refused n) = refused n
+abbrev pub state_says : Result Engine ℕ → Answer Engine
+state_says (Ok e) = accepted e
+state_says (Err n) = refused n
 
-abbrev pub decision_says : Decision → Answer Decided
-decision_says (ofDecision.Bin b c e) = accepted (record { bit = b; ctx = c; next = e })
-decision_says (ofDecision.Refused n) = refused n
+abbrev pub decision_says : Result DecidedBin ℕ → Answer Decided
+decision_says (Ok d) = accepted (record { bit = d.bin; ctx = d.context; next = d.state })
+decision_says (Err n) = refused n
 
-abbrev pub bins_say : Bins → Answer Drawn
-bins_say (ofBins.Read v e) = accepted (record { value = v; next = e })
-bins_say (ofBins.Refused n) = refused n
+abbrev pub bins_say : Result ReadBins ℕ → Answer Drawn
+bins_say (Ok r) = accepted (record { value = r.value; next = r.state })
+bins_say (Err n) = refused n
 
 -- what a step took, seen from the state e that it was opened from
 abbrev pub drawn_at : List ℕ → Engine → Taken → Answer Drawn

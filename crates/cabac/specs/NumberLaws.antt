@@ -1,16 +1,16 @@
 -- The numbers, one after the other: what a check that passed says, and what an answer by number is. Assumes nothing.
-use Rattle.std.specs.Prelude.{ℕ, zero, suc, ◌+◌, ◌-◌, ◌*◌, ◌≤◌, ◌<◌, Bool, ◌&&◌, ◌||◌, cond, List}
+use Rattle.std.specs.Prelude.{ℕ, zero, suc, ◌-◌, ◌≤◌, ◌<◌, Bool, ◌&&◌, ◌||◌, cond, List, Ok, Err}
 use Rattle.std.proofs.Math.Path.{◌≡◌, refl}
-use Rattle.std.proofs.Common.{sym, ap, ◌∙◌, arith}
+use Rattle.std.proofs.Common.{ap, arith}
 use Rattle.std.proofs.Math.Bool.{true, false}
 use Rattle.std.proofs.Math.ListN.{length}
 use Rattle.std.proofs.Math.Dec.{ltb, leb}
-use borrow.Author.Tests.{ltb-true, ltb-false, leb-true, leb-false, lt-ltb, le-ltb, lt-leb, le-leb}
+use borrow.Author.Tests.{ltb-true, ltb-false, leb-true, lt-ltb, le-ltb, lt-leb, le-leb}
 use Rattle.bins.specs.declared.state.Engine.{Engine}
 use Rattle.bins.specs.Bits.{ends, past_most}
 use Rattle.bins.specs.Engine.{place}
 use Rattle.bins.specs.EngineRuns.{Runs}
-use Rattle.cabac.specs.Numbers.{Answer, accepted, refused, ◌or_else◌, unless, payload_refusal, possible, state_refusal, context_refusal, count_refusal, offset_refusal, ended_refusal, alignment_refusal}
+use Rattle.cabac.specs.Numbers.{accepted, refused, ◌or_else◌, checked, unless, payload_refusal, possible, state_refusal, context_refusal, count_refusal, offset_refusal, ended_refusal, alignment_refusal}
 
 -- ---- a number and then another
 pub or_else_assoc : (a b c : ℕ) → ((a or_else b) or_else c) ≡ (a or_else b or_else c)
@@ -32,6 +32,37 @@ pub or_else_zero : (a b : ℕ) → 0 ≡ (a or_else b) → (0 ≡ a) × (0 ≡ b
 unfolding ◌or_else◌
 or_else_zero zero b q = (refl, q)
 or_else_zero (suc a) b q = absurd (omega arith)
+
+-- ---- a number as a check answers it
+pub checked_none : (n : ℕ) → n ≡ 0 → Ok tt ≡ checked n
+unfolding checked
+checked_none zero q = refl
+checked_none (suc n) q = absurd (omega arith)
+
+pub checked_some : (n : ℕ) → (n ≡ 0 → ⊥) → Err n ≡ checked n
+unfolding checked
+checked_some zero h = absurd (h refl)
+checked_some (suc n) h = refl
+
+pub checked_ok : (n : ℕ) {u : Unit {0}} → Ok u ≡ checked n → 0 ≡ n
+unfolding checked
+checked_ok zero q = refl
+checked_ok (suc n) q = let z : ◌≡◌ {A = ℕ} 0 1 = cc in absurd (omega arith)
+
+pub checked_err : (n m : ℕ) → Err m ≡ checked n → (m ≡ n) × (m ≡ 0 → ⊥)
+unfolding checked
+checked_err zero m q = let z : ◌≡◌ {A = ℕ} 0 1 = cc in absurd (omega arith)
+checked_err (suc n) m q = let e : m ≡ suc n = cc in (e, λ z. omega arith)
+
+pub checked_first : (m a b : ℕ) → Err m ≡ checked a → Err m ≡ checked (a or_else b)
+unfolding ◌or_else◌
+checked_first m zero b q = let e = checked_err zero m q in absurd (e.1 e.0)
+checked_first m (suc a) b q = q
+
+pub checked_rest : (a b : ℕ) → 0 ≡ a → checked b ≡ checked (a or_else b)
+unfolding ◌or_else◌
+checked_rest zero b q = refl
+checked_rest (suc a) b q = absurd (omega arith)
 
 -- ---- an answer by number
 pub unless_no : {A : Type 0} (n k : ℕ) (a : A) → n ≡ k → (n ≡ 0 → ⊥) → refused n ≡ unless k a

@@ -1,5 +1,5 @@
 -- Document 01's numbers: when each is given, and in which order.
-use Rattle.std.specs.Prelude.{ℕ, zero, suc, List, Bool, ◌&&◌, ◌||◌, cond, length, ltb, leb}
+use Rattle.std.specs.Prelude.{ℕ, zero, suc, List, Bool, ◌&&◌, ◌||◌, cond, length, ltb, leb, Result, Ok, Err}
 use Rattle.bins.specs.declared.state.Engine.{Engine}
 use Rattle.bins.specs.Bits.{ends, past_most}
 use Rattle.bins.specs.Engine.{place}
@@ -14,6 +14,11 @@ infixr 25 ◌or_else◌
 unfoldable pub ◌or_else◌ : ℕ → ℕ → ℕ
 zero or_else m = m
 suc n or_else m = suc n
+
+-- a number of document 01 as a check answers it: 0 refuses nothing
+unfoldable pub checked : ℕ → Result (Unit {0}) ℕ
+checked zero = Ok tt
+checked (suc n) = Err (suc n)
 
 unfoldable pub unless : {A : Type 0} → ℕ → A → Answer A
 unless zero a = accepted a

@@ -1,23 +1,26 @@
-// The answers of the entry points over the engine's state.
+// The answers of the entry points over the engine's state: what was read, or the number of the refusal.
 use bins::state::Engine;
 
 // A state, or the number of the refusal.
+pub type State = Result<Engine, u32>;
+
+// A bin with the packed context and the state behind it.
 #[derive(Clone, Copy)]
-pub enum State {
-    Ready(Engine),
-    Refused(u32),
+pub struct DecidedBin {
+    pub bin: bool,
+    pub context: u8,
+    pub state: Engine,
 }
 
-// A bin with the packed context and the state behind it, or the number of the refusal.
+// A bin by its context, or the number of the refusal.
+pub type Decision = Result<DecidedBin, u32>;
+
+// Bins as a number with the state behind them.
 #[derive(Clone, Copy)]
-pub enum Decision {
-    Bin(bool, u8, Engine),
-    Refused(u32),
+pub struct ReadBins {
+    pub value: u32,
+    pub state: Engine,
 }
 
-// Bins as a number with the state behind them, or the number of the refusal.
-#[derive(Clone, Copy)]
-pub enum Bins {
-    Read(u32, Engine),
-    Refused(u32),
-}
+// Bins, or the number of the refusal.
+pub type Bins = Result<ReadBins, u32>;

@@ -6,21 +6,18 @@ ghost use Rattle.cabac.specs.Entries as entries;
 use bins::places::{aligned, first_bit};
 use bins::state::Engine;
 use cabac::answers::State;
-use cabac_checks::checks::refusal;
+use cabac_checks::checks::check_state;
 
 // Alignment of the range, as before escape data: 256, and nothing is drawn.
 pub fn align_bypass(bytes: &[u8], e: Engine) -> State
     ensures { state_says result ≡ entries.align_bypass bytes.now e }
 {
-    let n = refusal(bytes, e);
-    if n != 0 {
-        return State::Refused(n);
-    }
+    check_state(bytes, e)?;
     if e.ended {
-        return State::Refused(6);
+        return Err(6);
     }
     if 256 <= e.offset {
-        return State::Refused(7);
+        return Err(7);
     }
     let at = e.position;
     let state = Engine {
@@ -30,21 +27,18 @@ pub fn align_bypass(bytes: &[u8], e: Engine) -> State
         ended: e.ended,
         past: e.past,
     };
-    State::Ready(state)
+    Ok(state)
 }
 
 // Byte alignment: the position rounded up to a whole byte.
 pub fn byte_align(bytes: &[u8], e: Engine) -> State
     ensures { state_says result ≡ entries.byte_align bytes.now e }
 {
-    let n = refusal(bytes, e);
-    if n != 0 {
-        return State::Refused(n);
-    }
+    check_state(bytes, e)?;
     let at = e.position;
     let byte = aligned(at);
     let place = first_bit(byte);
-    State::Ready(Engine {
+    Ok(Engine {
         range: e.range,
         offset: e.offset,
         position: place,
@@ -57,11 +51,10 @@ pub fn byte_align(bytes: &[u8], e: Engine) -> State
 pub fn rest(bytes: &[u8], e: Engine) -> &[u8]
     ensures { result.now ≡ entries.rest_of bytes.now e }
 {
-    let n = refusal(bytes, e);
-    if n != 0 {
+    let Ok(()) = check_state(bytes, e) else {
         let end = bytes.len();
         return &bytes[end..];
-    }
+    };
     let at = e.position;
     let byte = aligned(at);
     let first = byte.0;

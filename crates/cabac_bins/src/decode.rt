@@ -4,8 +4,8 @@ ghost use Rattle.cabac.specs.Entries.{decision_says, bins_say};
 ghost use Rattle.cabac.specs.Entries as entries;
 
 use bins::state::Engine;
-use cabac::answers::{Bins, Decision};
-use cabac_checks::checks::refusal;
+use cabac::answers::{Bins, DecidedBin, Decision, ReadBins};
+use cabac_checks::checks::check_state;
 use cabac_state::engine::{open, settle};
 use decision_rows::decision_entry;
 use payload_source::payload;
@@ -14,51 +14,49 @@ use payload_source::payload;
 pub fn decode_bin(bytes: &[u8], e: Engine, ctx: u8) -> Decision
     ensures { decision_says result ≡ entries.decision bytes.now e ctx }
 {
-    let n = refusal(bytes, e);
-    if n != 0 {
-        return Decision::Refused(n);
-    }
+    check_state(bytes, e)?;
     if 127 < ctx {
-        return Decision::Refused(3);
+        return Err(3);
     }
     if e.ended {
-        return Decision::Refused(6);
+        return Err(6);
     }
     let entry = decision_entry(ctx, e.range);
     let mut c = ctx;
     let t = payload::decide_by(entry, &mut c, bytes, open(e));
     let next = t.next;
     let state = settle(bytes, e, next);
-    Decision::Bin(t.value == 1, c, state)
+    Ok(DecidedBin {
+        bin: t.value == 1,
+        context: c,
+        state,
+    })
 }
 
 // Terminate: 1 ends the engine, with the range less 2 and nothing drawn.
 pub fn decode_terminate(bytes: &[u8], e: Engine) -> Bins
     ensures { bins_say result ≡ entries.terminate bytes.now e }
 {
-    let n = refusal(bytes, e);
-    if n != 0 {
-        return Bins::Refused(n);
-    }
+    check_state(bytes, e)?;
     if e.ended {
-        return Bins::Refused(6);
+        return Err(6);
     }
     let range = e.range - 2;
     let offset = e.offset;
     let at = e.position;
     if range <= offset {
-        return Bins::Read(
-            1,
-            Engine {
+        return Ok(ReadBins {
+            value: 1,
+            state: Engine {
                 range,
                 offset,
                 position: at,
                 ended: true,
                 past: e.past,
             },
-        );
+        });
     }
     let next = payload::renorm(bytes, open(e), range, offset);
     let state = settle(bytes, e, next);
-    Bins::Read(0, state)
+    Ok(ReadBins { value: 0, state })
 }

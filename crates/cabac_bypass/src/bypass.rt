@@ -5,8 +5,8 @@ ghost use Rattle.cabac.specs.Entries as entries;
 
 use bins::state::Engine;
 use bits::fetch::fetch;
-use cabac::answers::Bins;
-use cabac_checks::checks::{count_refusal, refusal};
+use cabac::answers::{Bins, ReadBins};
+use cabac_checks::checks::{check_count, check_state};
 use cabac_state::engine::{behind, bins_of, open};
 use payload_bypass::bypass;
 
@@ -14,12 +14,9 @@ use payload_bypass::bypass;
 pub fn decode_bypass(bytes: &[u8], e: Engine) -> Bins
     ensures { bins_say result ≡ entries.bypass_bits bytes.now e 1 }
 {
-    let n = refusal(bytes, e);
-    if n != 0 {
-        return Bins::Refused(n);
-    }
+    check_state(bytes, e)?;
     if e.ended {
-        return Bins::Refused(6);
+        return Err(6);
     }
     let t = bypass::bypass_one(bytes, open(e));
     bins_of(bytes, e, t)
@@ -29,12 +26,9 @@ pub fn decode_bypass(bytes: &[u8], e: Engine) -> Bins
 pub fn decode_bypass_bits(bytes: &[u8], e: Engine, count: u32) -> Bins
     ensures { bins_say result ≡ entries.bypass_bits bytes.now e count }
 {
-    let n = count_refusal(bytes, e, count);
-    if n != 0 {
-        return Bins::Refused(n);
-    }
+    check_count(bytes, e, count)?;
     if e.ended {
-        return Bins::Refused(6);
+        return Err(6);
     }
     let t = bypass::bypass_bits(bytes, open(e), count);
     bins_of(bytes, e, t)
@@ -44,12 +38,10 @@ pub fn decode_bypass_bits(bytes: &[u8], e: Engine, count: u32) -> Bins
 pub fn read_bits(bytes: &[u8], e: Engine, count: u32) -> Bins
     ensures { bins_say result ≡ entries.raw bytes.now e count }
 {
-    let n = count_refusal(bytes, e, count);
-    if n != 0 {
-        return Bins::Refused(n);
-    }
+    check_count(bytes, e, count)?;
     let at = e.position;
     let drawn = fetch(bytes, at, count);
     let value = drawn.bits;
-    Bins::Read(value, behind(bytes, e, e.range, e.offset, drawn))
+    let state = behind(bytes, e, e.range, e.offset, drawn);
+    Ok(ReadBins { value, state })
 }

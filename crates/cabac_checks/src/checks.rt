@@ -1,6 +1,6 @@
 // What is refused of payload and state, in document 01's order.
 ghost use Rattle.std.specs.Prelude.{◌≡◌, ◌-◌, ◌≤◌, length};
-ghost use Rattle.cabac.specs.Numbers.{◌or_else◌, payload_refusal, state_refusal, count_refusal};
+ghost use Rattle.cabac.specs.Numbers.{◌or_else◌, checked, payload_refusal, state_refusal, count_refusal};
 ghost use Rattle.cabac.specs.Entries as entries;
 
 use bins::places::end_of;
@@ -45,27 +45,28 @@ pub fn state_refusal(bytes: &[u8], e: Engine) -> u32
     0
 }
 
-// 1, 2, 3
-pub fn refusal(bytes: &[u8], e: Engine) -> u32
-    ensures { result ≡ payload_refusal bytes.now or_else state_refusal bytes.now e }
+// 0 refuses nothing, and every other number is handed up by `?`.
+pub fn passed(number: u32) -> Result<(), u32>
+    ensures { result ≡ checked number }
 {
-    let n = payload_refusal(bytes);
-    if n != 0 {
-        return n;
-    }
-    state_refusal(bytes, e)
+    if number == 0 { Ok(()) } else { Err(number) }
+}
+
+// 1, 2, 3
+pub fn check_state(bytes: &[u8], e: Engine) -> Result<(), u32>
+    ensures { result ≡ checked (payload_refusal bytes.now or_else state_refusal bytes.now e) }
+{
+    passed(payload_refusal(bytes))?;
+    passed(state_refusal(bytes, e))
 }
 
 // 1, 2, 4, 3
-pub fn count_refusal(bytes: &[u8], e: Engine, count: u32) -> u32
-    ensures { result ≡ payload_refusal bytes.now or_else count_refusal count or_else state_refusal bytes.now e }
+pub fn check_count(bytes: &[u8], e: Engine, count: u32) -> Result<(), u32>
+    ensures { result ≡ checked (payload_refusal bytes.now or_else count_refusal count or_else state_refusal bytes.now e) }
 {
-    let n = payload_refusal(bytes);
-    if n != 0 {
-        return n;
-    }
+    passed(payload_refusal(bytes))?;
     if 32 < count {
-        return 4;
+        return Err(4);
     }
-    state_refusal(bytes, e)
+    passed(state_refusal(bytes, e))
 }

@@ -3,7 +3,6 @@ ghost use Rattle.std.specs.Prelude.{◌≡◌};
 ghost use Rattle.cabac_context.specs.Lent.{lent_says, on_lent};
 
 use bins::state::Engine;
-use cabac::answers::Decision;
 use cabac_bins::decode;
 
 // One context: probability state and most probable bin in a byte.
@@ -12,12 +11,15 @@ pub struct CtxModel {
     pub packed: u8,
 }
 
-// A bin with the state behind it, or the number of the refusal.
+// A bin with the state behind it.
 #[derive(Clone, Copy)]
-pub enum Bit {
-    Read(bool, Engine),
-    Refused(u32),
+pub struct ReadBit {
+    pub bin: bool,
+    pub state: Engine,
 }
+
+// A bin, or the number of the refusal.
+pub type Bit = Result<ReadBit, u32>;
 
 // What is answered, and what is stored.
 #[derive(Clone, Copy)]
@@ -31,13 +33,16 @@ pub fn decide(bytes: &[u8], e: Engine, packed: u8) -> Turn
     ensures { lent_says result.bit result.packed ≡ on_lent bytes.now e packed }
 {
     match decode::decode_bin(bytes, e, packed) {
-        Decision::Bin(bit, next, state) => Turn {
-            packed: next,
-            bit: Bit::Read(bit, state),
+        Ok(d) => Turn {
+            packed: d.context,
+            bit: Ok(ReadBit {
+                bin: d.bin,
+                state: d.state,
+            }),
         },
-        Decision::Refused(n) => Turn {
+        Err(n) => Turn {
             packed,
-            bit: Bit::Refused(n),
+            bit: Err(n),
         },
     }
 }

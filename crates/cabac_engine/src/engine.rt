@@ -7,17 +7,14 @@ ghost use Rattle.cabac.specs.Entries as entries;
 use bins::places::{BitPlace, aligned, first_bit};
 use bins::state::Engine;
 use cabac::answers::State;
-use cabac_checks::checks::{payload_refusal, refusal};
+use cabac_checks::checks::{check_state, passed, payload_refusal};
 use cabac_state::engine::started_at;
 
 // Start: range 510, offset the first nine bits.
 pub fn start(bytes: &[u8]) -> State
     ensures { state_says result ≡ entries.start bytes.now }
 {
-    let n = payload_refusal(bytes);
-    if n != 0 {
-        return State::Refused(n);
-    }
+    passed(payload_refusal(bytes))?;
     let e = Engine {
         range: 510,
         offset: 0,
@@ -32,10 +29,7 @@ pub fn start(bytes: &[u8]) -> State
 pub fn restart(bytes: &[u8], e: Engine) -> State
     ensures { state_says result ≡ entries.restart bytes.now e }
 {
-    let n = refusal(bytes, e);
-    if n != 0 {
-        return State::Refused(n);
-    }
+    check_state(bytes, e)?;
     let at = e.position;
     let byte = aligned(at);
     let place = first_bit(byte);

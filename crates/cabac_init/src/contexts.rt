@@ -9,7 +9,7 @@ use bins::tags::CONTEXTS;
 pub fn quantiser(q: u8) -> u32
     ensures { result ≡ min q 51 }
 {
-    if q < 51 { q as u32 } else { 51 }
+    (q as u32).min(51)
 }
 
 // floor(m·q/16), m = 5·(v div 16) − 45, raised by 144: a natural number rounds down, a negative one would not.
@@ -25,13 +25,7 @@ pub fn clip(raised: u32, by: u32) -> u32
     requires { by ≤ 536 }
     ensures { result ≡ min 126 (max 1 (raised - by)) }
 {
-    if raised <= by + 1 {
-        return 1;
-    }
-    if by + 126 <= raised {
-        return 126;
-    }
-    raised - by
+    raised.saturating_sub(by).max(1).min(126)
 }
 
 pub fn pack(p: u32) -> u8
@@ -62,13 +56,9 @@ pub fn init_contexts(
     if values.len() != CONTEXTS {
         return 4;
     }
-    let mut fresh = [0u8; CONTEXTS];
-    let mut i: usize = 0;
-    while i < CONTEXTS {
-        fresh[i] = init(values[i], q);
-        i += 1;
+    for (i, value) in values.iter().enumerate() {
+        contexts[i] = init(*value, q);
     }
-    *contexts = fresh;
     *statistics = [0u8; 4];
     0
 }

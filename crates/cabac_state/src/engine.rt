@@ -10,7 +10,7 @@ use bins::fetch::Drawn;
 use bins::places::{BitPlace, end_of, in_payload, of_payload};
 use bins::state::{Engine, Interval, Taken};
 use bits::fetch::fetch;
-use cabac::answers::{Bins, State};
+use cabac::answers::{Bins, ReadBins, State};
 
 // A block reader works on range, offset and place alone.
 pub fn open(e: Engine) -> Interval
@@ -98,7 +98,10 @@ pub fn bins_of(bytes: &[u8], e: Engine, t: Taken) -> Bins
 {
     let next = t.next;
     let state = settle(bytes, e, next);
-    Bins::Read(t.value, state)
+    Ok(ReadBins {
+        value: t.value,
+        state,
+    })
 }
 
 // Nine bits at the state's place are its offset; 510 and 511 are none.
@@ -110,7 +113,7 @@ pub fn started_at(bytes: &[u8], e: Engine) -> State
     let nine = fetch(bytes, at, 9);
     let offset = nine.bits;
     if 510 <= offset {
-        return State::Refused(5);
+        return Err(5);
     }
-    State::Ready(behind(bytes, e, 510, offset, nine))
+    Ok(behind(bytes, e, 510, offset, nine))
 }

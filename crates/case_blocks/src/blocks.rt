@@ -5,18 +5,15 @@
 //     plainblock, plainlist: the same
 //
 // At a refusal: answer memory. A list that is accepted must be the one that the bin writer makes of its block.
-use crate::engine;
+use crate::coder::Coder;
 use crate::writes::is_list_of;
 use bins::state::Engine;
-use bins::tags::CONTEXTS;
 use case_lent::lent::{MARK, front, holds};
-use case_text::answer::{NONE, same_contexts, same_statistics};
-use case_text::given::{Chosen, PLACES};
+use case_text::answer::{Answer, Fault};
+use case_text::given;
+use case_text::given::{Lent, PLACES};
 use case_text::record::value;
-use case_text::{answer, given};
-use hevc_plain_coding::entries::{read_bins_plain, residual_coding_plain};
-use hevc_reader::entries::{read_bins, residual_coding};
-use hevc_residual::answers::{Found, Read, ReadList};
+use hevc_residual::answers::{Found, ReadBlock};
 use hevc_residual::params::{Params, Rdpcm};
 use std::io;
 
@@ -31,58 +28,36 @@ pub fn area(log2: u32) -> usize {
     }
 }
 
-fn level(
-    out: &impl Print,
-    s: &[u8],
-    at: usize,
-    first: bool,
-    n: usize,
-    value: i32,
-) -> io::Result<usize> {
-    answer::signed(out, s, answer::place(out, s, at, first, n)?, value)
-}
-
 // The levels from a place on, and before another, that are not 0.
 pub fn levels(
-    out: &impl Print,
-    s: &[u8],
-    at: usize,
+    a: &mut Answer<'_, impl Print>,
     block: &[i32],
     from: usize,
     end: usize,
-) -> io::Result<usize> {
-    let mut to = at;
+) -> io::Result<()> {
     let mut none = true;
-    let mut i = from;
-    while i < end {
+    for i in from..end {
         if block.len() <= i {
-            return Ok(answer::OTHER);
+            *a = Answer::Other;
+            return Ok(());
         }
         if block[i] != 0 {
-            to = level(out, s, to, none, i - from, block[i])?;
+            a.place(none, i - from)?;
+            a.signed(block[i])?;
             none = false;
         }
-        i += 1;
     }
-    answer::unless(out, s, to, !none, b"-")
+    a.unless(!none, b"-")
 }
 
 // The levels of a block, with the places behind it as they were.
 pub fn all_levels(
-    out: &impl Print,
-    s: &[u8],
-    at: usize,
+    a: &mut Answer<'_, impl Print>,
     block: &[i32; PLACES],
     end: usize,
-) -> io::Result<usize> {
-    let to = levels(out, s, at, block, 0, end)?;
-    answer::unless(
-        out,
-        s,
-        to,
-        holds(block, end, PLACES, MARK),
-        b" behind=changed",
-    )
+) -> io::Result<()> {
+    levels(a, block, 0, end)?;
+    a.unless(holds(block, end, PLACES, MARK), b" behind=changed")
 }
 
 fn rdpcm(r: Rdpcm) -> u32 {
@@ -94,188 +69,130 @@ fn rdpcm(r: Rdpcm) -> u32 {
 }
 
 // A direction by its number, which is one more than the record's.
-pub fn direction(out: &impl Print, s: &[u8], at: usize, n: u32) -> io::Result<usize> {
+pub fn direction(a: &mut Answer<'_, impl Print>, n: u32) -> io::Result<()> {
     if n == 0 {
-        return answer::text(out, s, at, b"-1");
+        return a.text(b"-1");
     }
-    answer::decimal(out, s, at, (n - 1) as u64)
+    a.decimal(u64::from(n - 1))
 }
 
 fn found(
-    out: &impl Print,
-    s: &[u8],
-    at: usize,
+    a: &mut Answer<'_, impl Print>,
     f: Found,
     block: &[i32; PLACES],
     end: usize,
-) -> io::Result<usize> {
+) -> io::Result<()> {
     let choice = f.rdpcm;
     let n = [
-        f.skip as u64,
-        f.column as u64,
-        f.row as u64,
-        f.greatest as u64,
-        0,
-        0,
-        0,
-        0,
+        u64::from(f.skip),
+        u64::from(f.column),
+        u64::from(f.row),
+        u64::from(f.greatest),
     ];
-    let head = answer::form(out, s, at, b"answer=0 skip=$0 rdpcm=", &n)?;
-    let sign = direction(out, s, head, rdpcm(choice))?;
-    let to = answer::form(out, s, sign, b" column=$1 row=$2 greatest=$3 levels=", &n)?;
-    all_levels(out, s, to, block, end)
+    a.form(b"answer=0 skip=$0 rdpcm=", &n)?;
+    direction(a, rdpcm(choice))?;
+    a.form(b" column=$1 row=$2 greatest=$3 levels=", &n)?;
+    all_levels(a, block, end)
 }
 
 // What a refusal left of the places that were lent.
 pub fn refused(
-    out: &impl Print,
-    s: &[u8],
-    at: usize,
+    a: &mut Answer<'_, impl Print>,
     n: u32,
     block: &[i32; PLACES],
     end: usize,
-) -> io::Result<usize> {
-    let to = answer::refusal(out, s, at, n)?;
+) -> io::Result<()> {
+    a.refusal(n)?;
     if holds(block, 0, PLACES, MARK) {
-        return answer::text(out, s, to, b" memory=untouched");
+        return a.text(b" memory=untouched");
     }
     if holds(block, 0, end, 0) & holds(block, end, PLACES, MARK) {
-        return answer::text(out, s, to, b" memory=zero");
+        return a.text(b" memory=zero");
     }
-    answer::text(out, s, to, b" memory=changed")
-}
-
-fn read_by(
-    plain: bool,
-    bytes: &[u8],
-    e: Engine,
-    contexts: &mut [u8; CONTEXTS],
-    stats: &mut [u8; 4],
-    p: Params,
-    block: &mut [i32],
-) -> Read {
-    if plain {
-        return residual_coding_plain(bytes, e, contexts, stats, p, block);
-    }
-    residual_coding(bytes, e, contexts, stats, p, block)
+    a.text(b" memory=changed")
 }
 
 fn block_of(
-    out: &impl Print,
-    s: &[u8],
-    plain: bool,
+    a: &mut Answer<'_, impl Print>,
+    coder: Coder,
     bytes: &[u8],
     e: Engine,
     p: Params,
-    contexts: &[u8; CONTEXTS],
-    stats: &[u8; 4],
+    lent: &Lent,
     places: usize,
-    at: usize,
-) -> io::Result<usize> {
+) -> io::Result<()> {
     let mut block = [MARK; PLACES];
-    let mut after = *contexts;
-    let mut left = *stats;
-    let r = read_by(
-        plain,
-        bytes,
-        e,
-        &mut after,
-        &mut left,
-        p,
-        front(&mut block, places),
-    );
+    let mut after = *lent;
+    let r = coder.read(bytes, e, &mut after, p, front(&mut block, places));
     let end = area(p.log2);
     match r {
-        Read::Block(f, next) => {
-            let to = found(out, s, at, f, &block, end)?;
-            let to = engine::state(out, s, to, b" state=$1,$2,$3,$4,$5", 0, next, 0)?;
-            let to = answer::contexts(out, s, to, contexts, &after)?;
-            answer::statistics(out, s, to, &left)
+        Ok(
+            ReadBlock {
+                found: f,
+                state: next,
+            },
+        ) => {
+            found(a, f, &block, end)?;
+            a.state(b" state=", next)?;
+            a.changes(&lent.contexts, &after.contexts)?;
+            a.statistics(&after.stats)
         }
-        Read::Refused(n) => {
-            let to = refused(out, s, at, n, &block, end)?;
-            let right = same_contexts(contexts, &after) & same_statistics(stats, &left);
-            answer::unless(out, s, to, right, b" ctx=changed")
+        Err(n) => {
+            refused(a, n, &block, end)?;
+            a.unless(after == *lent, b" ctx=changed")
         }
     }
 }
 
 pub fn block(
-    out: &impl Print,
+    a: &mut Answer<'_, impl Print>,
     s: &[u8],
-    plain: bool,
+    coder: Coder,
     bytes: &[u8],
     e: Engine,
     places: usize,
-    at: usize,
-) -> io::Result<usize> {
-    let mut contexts = [64u8; CONTEXTS];
-    let mut stats = [0u8; 4];
-    let lent = given::lent(value(s, b"ctx"), &mut contexts);
-    if !(given::lent(value(s, b"stats"), &mut stats) & lent) {
-        return Ok(NONE);
-    }
-    match given::params(value(s, b"p")) {
-        Chosen::Are(p) => block_of(out, s, plain, bytes, e, p, &contexts, &stats, places, at),
-        Chosen::Missing => Ok(NONE),
-    }
-}
-
-fn list_by(
-    plain: bool,
-    bins: &[u8],
-    stats: &mut [u8; 4],
-    p: Params,
-    block: &mut [i32],
-) -> ReadList {
-    if plain {
-        return read_bins_plain(bins, stats, p, block);
-    }
-    read_bins(bins, stats, p, block)
+) -> Result<(), Fault> {
+    let lent = Lent::of(s).ok_or(Fault::NoRecord)?;
+    let p = given::params(value(s, b"p")).ok_or(Fault::NoRecord)?;
+    block_of(a, coder, bytes, e, p, &lent, places)?;
+    Ok(())
 }
 
 fn list_of(
-    out: &impl Print,
-    s: &[u8],
-    plain: bool,
+    a: &mut Answer<'_, impl Print>,
+    coder: Coder,
     bins: &[u8],
     p: Params,
     stats: &[u8; 4],
     places: usize,
-    at: usize,
-) -> io::Result<usize> {
+) -> io::Result<()> {
     let mut block = [MARK; PLACES];
     let mut left = *stats;
-    let r = list_by(plain, bins, &mut left, p, front(&mut block, places));
+    let r = coder.read_list(bins, &mut left, p, front(&mut block, places));
     let end = area(p.log2);
     match r {
-        ReadList::Block(f) => {
-            let to = found(out, s, at, f, &block, end)?;
-            let to = answer::statistics(out, s, to, &left)?;
-            let right = is_list_of(plain, p, stats, &block, f, bins, &left);
-            answer::unless(out, s, to, right, b" again=differs")
+        Ok(f) => {
+            found(a, f, &block, end)?;
+            a.statistics(&left)?;
+            let right = is_list_of(coder, p, stats, &block, f, bins, &left);
+            a.unless(right, b" again=differs")
         }
-        ReadList::Refused(n) => {
-            let to = refused(out, s, at, n, &block, end)?;
-            answer::unless(out, s, to, same_statistics(stats, &left), b" stats=changed")
+        Err(n) => {
+            refused(a, n, &block, end)?;
+            a.unless(left == *stats, b" stats=changed")
         }
     }
 }
 
 pub fn list(
-    out: &impl Print,
+    a: &mut Answer<'_, impl Print>,
     s: &[u8],
-    plain: bool,
+    coder: Coder,
     bins: &[u8],
     places: usize,
-    at: usize,
-) -> io::Result<usize> {
-    let mut stats = [0u8; 4];
-    if !given::lent(value(s, b"stats"), &mut stats) {
-        return Ok(NONE);
-    }
-    match given::params(value(s, b"p")) {
-        Chosen::Are(p) => list_of(out, s, plain, bins, p, &stats, places, at),
-        Chosen::Missing => Ok(NONE),
-    }
+) -> Result<(), Fault> {
+    let lent = Lent::of(s).ok_or(Fault::NoRecord)?;
+    let p = given::params(value(s, b"p")).ok_or(Fault::NoRecord)?;
+    list_of(a, coder, bins, p, &lent.stats, places)?;
+    Ok(())
 }

@@ -10,120 +10,96 @@
 //     restart payload [state] => answer state
 //     alignbypass payload [state] => answer state: alignment of the range, as before escape data
 use bins::state::Engine;
-use cabac::answers::{Bins, Decision, State};
+use cabac::answers::{Bins, DecidedBin, Decision, ReadBins, State};
 use cabac_align::align::{align_bypass, byte_align, rest};
 use cabac_bins::decode::{decode_bin, decode_terminate};
 use cabac_bypass::bypass::{decode_bypass, decode_bypass_bits, read_bits};
 use cabac_engine::engine::restart;
-use case_text::answer;
-use check::same;
+use case_text::answer::Answer;
+use case_text::given::Numbers;
 use std::io;
 use text::lines::part;
 
-// A value and the state behind it, behind a key.
-pub fn state(
-    out: &impl Print,
-    s: &[u8],
-    at: usize,
-    f: &[u8],
-    value: u32,
-    e: Engine,
-    context: u8,
-) -> io::Result<usize> {
-    let n = [
-        value as u64,
-        e.range as u64,
-        e.offset as u64,
-        e.position.0 as u64,
-        e.ended as u64,
-        e.past as u64,
-        context as u64,
-        0,
-    ];
-    answer::form(out, s, at, f, &n)
+// The entry points that go on from a state.
+#[derive(Clone, Copy, PartialEq, Eq)]
+pub enum Entry {
+    Decision,
+    Bypass,
+    Single,
+    Raw,
+    Terminate,
+    Align,
+    Restart,
+    AlignBypass,
 }
 
-pub fn ready(out: &impl Print, s: &[u8], at: usize, r: State) -> io::Result<usize> {
+pub fn ready(a: &mut Answer<'_, impl Print>, r: State) -> io::Result<()> {
     match r {
-        State::Ready(e) => state(out, s, at, b"answer=0 state=$1,$2,$3,$4,$5", 0, e, 0),
-        State::Refused(n) => answer::refusal(out, s, at, n),
+        Ok(e) => a.state(b"answer=0 state=", e),
+        Err(n) => a.refusal(n),
     }
 }
 
-fn bins(out: &impl Print, s: &[u8], at: usize, r: Bins) -> io::Result<usize> {
+// A value and the state behind it.
+fn value(a: &mut Answer<'_, impl Print>, v: u32, e: Engine) -> io::Result<()> {
+    a.form(b"answer=0 value=$0", &[u64::from(v)])?;
+    a.state(b" state=", e)
+}
+
+fn bins(a: &mut Answer<'_, impl Print>, r: Bins) -> io::Result<()> {
     match r {
-        Bins::Read(v, e) => state(
-            out,
-            s,
-            at,
-            b"answer=0 value=$0 state=$1,$2,$3,$4,$5",
-            v,
-            e,
-            0,
-        ),
-        Bins::Refused(n) => answer::refusal(out, s, at, n),
+        Ok(ReadBins { value: v, state: e }) => value(a, v, e),
+        Err(n) => a.refusal(n),
     }
 }
 
-fn decision(out: &impl Print, s: &[u8], at: usize, r: Decision) -> io::Result<usize> {
+fn decision(a: &mut Answer<'_, impl Print>, r: Decision) -> io::Result<()> {
     match r {
-        Decision::Bin(bin, context, e) => state(
-            out,
-            s,
-            at,
-            b"answer=0 value=$0 state=$1,$2,$3,$4,$5 context=$6",
-            bin as u32,
-            e,
-            context,
-        ),
-        Decision::Refused(n) => answer::refusal(out, s, at, n),
+        Ok(
+            DecidedBin {
+                bin: bin,
+                context: context,
+                state: e,
+            },
+        ) => {
+            value(a, u32::from(bin), e)?;
+            a.form(b" context=$0", &[u64::from(context)])
+        }
+        Err(n) => a.refusal(n),
     }
 }
 
 // The rest is given out by an entry point of its own: what stands behind the byte place, and nothing at a refusal.
-fn aligned(
-    out: &impl Print,
-    s: &[u8],
-    at: usize,
-    bytes: &[u8],
-    left: &[u8],
-    r: State,
-) -> io::Result<usize> {
+fn aligned(a: &mut Answer<'_, impl Print>, bytes: &[u8], left: &[u8], r: State) -> io::Result<()> {
     match r {
-        State::Ready(e) => {
+        Ok(e) => {
             let from = e.position.0 / 8;
-            let head = answer::text(out, s, at, b"answer=0 rest=")?;
-            let key = answer::decimal(out, s, head, from as u64)?;
-            let to = state(out, s, key, b" state=$1,$2,$3,$4,$5", 0, e, 0)?;
-            let right = same(left, part(bytes, from, bytes.len()));
-            answer::unless(out, s, to, right, b" rest=differs")
+            a.form(b"answer=0 rest=$0", &[from as u64])?;
+            a.state(b" state=", e)?;
+            a.unless(part(bytes, from, bytes.len()) == left, b" rest=differs")
         }
-        State::Refused(n) => {
-            let to = answer::refusal(out, s, at, n)?;
-            answer::unless(out, s, to, left.len() == 0, b" rest=given")
+        Err(n) => {
+            a.refusal(n)?;
+            a.unless(left.is_empty(), b" rest=given")
         }
     }
 }
 
-// By the kind's number among those with a state (kinds.rt).
 pub fn answered(
-    out: &impl Print,
-    kind: usize,
-    s: &[u8],
+    a: &mut Answer<'_, impl Print>,
+    entry: Entry,
     bytes: &[u8],
     e: Engine,
-    count: u32,
-    context: u8,
-    at: usize,
-) -> io::Result<usize> {
-    match kind {
-        0 => decision(out, s, at, decode_bin(bytes, e, context)),
-        1 => bins(out, s, at, decode_bypass_bits(bytes, e, count)),
-        2 => bins(out, s, at, decode_bypass(bytes, e)),
-        3 => bins(out, s, at, read_bits(bytes, e, count)),
-        4 => bins(out, s, at, decode_terminate(bytes, e)),
-        5 => aligned(out, s, at, bytes, rest(bytes, e), byte_align(bytes, e)),
-        6 => ready(out, s, at, restart(bytes, e)),
-        _ => ready(out, s, at, align_bypass(bytes, e)),
+    n: &Numbers,
+) -> io::Result<()> {
+    match entry {
+        Entry::Decision => decision(a, decode_bin(bytes, e, n.context)),
+        Entry::Bypass => bins(a, decode_bypass_bits(bytes, e, n.count)),
+        Entry::Single => bins(a, decode_bypass(bytes, e)),
+        Entry::Raw => bins(a, read_bits(bytes, e, n.count)),
+        Entry::Terminate => bins(a, decode_terminate(bytes, e)),
+        Entry::Align => aligned(a, bytes, rest(bytes, e), byte_align(bytes, e)),
+        Entry::Restart => ready(a, restart(bytes, e)),
+        Entry::AlignBypass => ready(a, align_bypass(bytes, e)),
     }
 }

@@ -1,112 +1,39 @@
-// The text of an answer, piece by piece. A piece is held against the record at a place, and the place behind it is answered; behind
-// a piece that is another one there is none. At the place SHOWN a piece is written to the printer, which is handed down for that, instead.
-use bins::tags::CONTEXTS;
-use check::same;
+// The text of an answer as it comes about, piece by piece.
+use bins::state::Engine;
 use octet_scan::find;
 use std::io;
 use text::lines::part;
 use text::write;
 use text_room::put_decimal;
 
-pub const SHOWN: usize = usize::MAX;
-
-// A place that no text has.
-pub const OTHER: usize = SHOWN - 1;
-
-// The answer of a line that is no record.
-pub const NONE: usize = SHOWN - 2;
-
-pub fn text(out: &impl Print, wanted: &[u8], at: usize, piece: &[u8]) -> io::Result<usize> {
-    if at == SHOWN {
-        write::text(out, piece)?;
-        return Ok(SHOWN);
-    }
-    if wanted.len() < at {
-        return Ok(OTHER);
-    }
-    if wanted.len() - at < piece.len() {
-        return Ok(OTHER);
-    }
-    let to = at + piece.len();
-    if same(part(wanted, at, to), piece) {
-        Ok(to)
-    } else {
-        Ok(OTHER)
-    }
+// It is written, or held against the text that a record wants.
+#[derive(Clone, Copy)]
+pub enum Answer<'a, P> {
+    Shown(&'a P),
+    // what is wanted behind the pieces so far
+    Wanted(&'a [u8]),
+    // a piece was another one
+    Other,
 }
 
-pub fn decimal(out: &impl Print, wanted: &[u8], at: usize, n: u64) -> io::Result<usize> {
-    let mut digits = [0u8; 20];
-    let k = put_decimal(n, &mut digits, 0);
-    first_digits(out, wanted, at, &digits, k)
+// Why there is none.
+#[derive(Drop)]
+pub enum Fault {
+    // a value is missing, or one that its key cannot have
+    NoRecord,
+    Unwritten(io::Error),
 }
 
-fn first_digits(
-    out: &impl Print,
-    wanted: &[u8],
-    at: usize,
-    digits: &[u8; 20],
-    n: usize,
-) -> io::Result<usize> {
-    text(out, wanted, at, part(digits, 0, n))
-}
-
-// A level or a scale: its sign and its magnitude.
-pub fn signed(out: &impl Print, wanted: &[u8], at: usize, n: i32) -> io::Result<usize> {
-    if n < 0 {
-        let to = text(out, wanted, at, b"-")?;
-        return decimal(out, wanted, to, write::magnitude(n));
+impl From<io::Error> for Fault {
+    fn from(e: io::Error) -> Fault {
+        Fault::Unwritten(e)
     }
-    decimal(out, wanted, at, write::magnitude(n))
 }
 
 // The number that a digit of a form names.
-fn number_of(digit: u8, n: &[u64; 8]) -> u64 {
+fn number_of(digit: u8, n: &[u64]) -> u64 {
     let k = (digit % 8) as usize;
-    n[k]
-}
-
-// A form: its letters as they stand, and for each $ and the digit behind it the number that has this place.
-pub fn form(
-    out: &impl Print,
-    wanted: &[u8],
-    at: usize,
-    f: &[u8],
-    n: &[u64; 8],
-) -> io::Result<usize> {
-    let mut to = at;
-    let mut i: usize = 0;
-    while i < f.len() {
-        let end = find(f, i, f.len(), b'$');
-        to = text(out, wanted, to, part(f, i, end))?;
-        if f.len() - end < 2 {
-            return Ok(to);
-        }
-        to = decimal(out, wanted, to, number_of(f[end + 1], n))?;
-        i = end + 2;
-    }
-    Ok(to)
-}
-
-// A number of the answer alone: of a refusal.
-pub fn refusal(out: &impl Print, wanted: &[u8], at: usize, n: u32) -> io::Result<usize> {
-    let to = text(out, wanted, at, b"answer=")?;
-    decimal(out, wanted, to, n as u64)
-}
-
-// What must not be is said where it is, so that the answer is another one.
-pub fn unless(
-    out: &impl Print,
-    wanted: &[u8],
-    at: usize,
-    right: bool,
-    piece: &[u8],
-) -> io::Result<usize> {
-    if right {
-        Ok(at)
-    } else {
-        text(out, wanted, at, piece)
-    }
+    n.get(k).copied().unwrap_or(0)
 }
 
 fn glyph(digit: u8) -> u8 {
@@ -119,89 +46,124 @@ fn glyph(digit: u8) -> u8 {
     b'?'
 }
 
-fn octet(out: &impl Print, wanted: &[u8], at: usize, b: u8) -> io::Result<usize> {
-    let pair = [glyph(b / 16), glyph(b % 16)];
-    text(out, wanted, at, &pair)
-}
-
-// Bytes in hexadecimal.
-pub fn bytes(out: &impl Print, wanted: &[u8], at: usize, s: &[u8]) -> io::Result<usize> {
-    let mut to = at;
-    let mut i: usize = 0;
-    while i < s.len() {
-        to = octet(out, wanted, to, s[i])?;
-        i += 1;
-    }
-    Ok(to)
-}
-
-// The place of an entry, behind a comma where it is not the first of those that begin at a place.
-pub fn place(
-    out: &impl Print,
-    wanted: &[u8],
-    at: usize,
-    first: bool,
-    n: usize,
-) -> io::Result<usize> {
-    let from = unless(out, wanted, at, first, b",")?;
-    let to = decimal(out, wanted, from, n as u64)?;
-    text(out, wanted, to, b":")
-}
-
-fn change(
-    out: &impl Print,
-    wanted: &[u8],
-    at: usize,
-    first: bool,
-    n: usize,
-    context: u8,
-) -> io::Result<usize> {
-    octet(out, wanted, place(out, wanted, at, first, n)?, context)
-}
-
-// The contexts that are not what they were.
-pub fn changes(
-    out: &impl Print,
-    wanted: &[u8],
-    at: usize,
-    before: &[u8],
-    after: &[u8],
-) -> io::Result<usize> {
-    let mut to = text(out, wanted, at, b" changes=")?;
-    let mut none = true;
-    let mut i: usize = 0;
-    while i < before.len() {
-        if after.len() <= i {
-            return Ok(OTHER);
+impl<'a, P: Print> Answer<'a, P> {
+    // Held against what a text has from a place on.
+    pub fn wanted(text: &'a [u8], from: usize) -> Answer<'a, P> {
+        match text.get(from..) {
+            Some(wanted) => Answer::Wanted(wanted),
+            None => Answer::Other,
         }
-        if before[i] != after[i] {
-            to = change(out, wanted, to, none, i, after[i])?;
-            none = false;
-        }
-        i += 1;
     }
-    unless(out, wanted, to, !none, b"-")
-}
 
-// The same of the contexts that are lent to a reader.
-pub fn contexts(
-    out: &impl Print,
-    wanted: &[u8],
-    at: usize,
-    before: &[u8; CONTEXTS],
-    after: &[u8; CONTEXTS],
-) -> io::Result<usize> {
-    changes(out, wanted, at, before, after)
-}
+    pub fn is_wanted(&self) -> bool {
+        match self {
+            Answer::Wanted(left) => left.is_empty(),
+            _ => false,
+        }
+    }
 
-pub fn statistics(out: &impl Print, wanted: &[u8], at: usize, s: &[u8; 4]) -> io::Result<usize> {
-    bytes(out, wanted, text(out, wanted, at, b" stats=")?, s)
-}
+    pub fn text(&mut self, piece: &[u8]) -> io::Result<()> {
+        match *self {
+            Answer::Shown(out) => write::text(out, piece)?,
+            Answer::Wanted(wanted) => {
+                *self = match wanted.strip_prefix(piece) {
+                    Some(left) => Answer::Wanted(left),
+                    None => Answer::Other,
+                };
+            }
+            Answer::Other => {}
+        }
+        Ok(())
+    }
 
-pub fn same_contexts(a: &[u8; CONTEXTS], b: &[u8; CONTEXTS]) -> bool {
-    same(a, b)
-}
+    pub fn decimal(&mut self, n: u64) -> io::Result<()> {
+        let mut digits = [0u8; 20];
+        let k = put_decimal(n, &mut digits, 0);
+        self.text(part(&digits, 0, k))
+    }
 
-pub fn same_statistics(a: &[u8; 4], b: &[u8; 4]) -> bool {
-    same(a, b)
+    // A level or a scale: its sign and its magnitude.
+    pub fn signed(&mut self, n: i32) -> io::Result<()> {
+        if n < 0 {
+            self.text(b"-")?;
+        }
+        self.decimal(write::magnitude(n))
+    }
+
+    // A form: its letters as they stand, and for each $ and the digit behind it the number that has this place.
+    pub fn form(&mut self, f: &[u8], n: &[u64]) -> io::Result<()> {
+        let mut i: usize = 0;
+        while i < f.len() {
+            let end = find(f, i, f.len(), b'$');
+            self.text(part(f, i, end))?;
+            if f.len() - end < 2 {
+                return Ok(());
+            }
+            self.decimal(number_of(f[end + 1], n))?;
+            i = end + 2;
+        }
+        Ok(())
+    }
+
+    // A number of the answer alone: of a refusal.
+    pub fn refusal(&mut self, n: u32) -> io::Result<()> {
+        self.text(b"answer=")?;
+        self.decimal(u64::from(n))
+    }
+
+    // What must not be is said where it is, so that the answer is another one.
+    pub fn unless(&mut self, right: bool, piece: &[u8]) -> io::Result<()> {
+        if right { Ok(()) } else { self.text(piece) }
+    }
+
+    fn octet(&mut self, b: u8) -> io::Result<()> {
+        self.text(&[glyph(b / 16), glyph(b % 16)])
+    }
+
+    // Bytes in hexadecimal.
+    pub fn bytes(&mut self, s: &[u8]) -> io::Result<()> {
+        for b in s {
+            self.octet(*b)?;
+        }
+        Ok(())
+    }
+
+    // The place of an entry, behind a comma where it is not the first of those that begin at a place.
+    pub fn place(&mut self, first: bool, n: usize) -> io::Result<()> {
+        self.unless(first, b",")?;
+        self.decimal(n as u64)?;
+        self.text(b":")
+    }
+
+    // The contexts that are not what they were.
+    pub fn changes<const N: usize>(&mut self, before: &[u8; N], after: &[u8; N]) -> io::Result<()> {
+        self.text(b" changes=")?;
+        let mut none = true;
+        for (i, (old, new)) in before.iter().zip(after).enumerate() {
+            if old != new {
+                self.place(none, i)?;
+                self.octet(*new)?;
+                none = false;
+            }
+        }
+        self.unless(!none, b"-")
+    }
+
+    // A state behind a key.
+    pub fn state(&mut self, key: &[u8], e: Engine) -> io::Result<()> {
+        self.text(key)?;
+        let n = [
+            u64::from(e.range),
+            u64::from(e.offset),
+            e.position.0 as u64,
+            u64::from(e.ended),
+            u64::from(e.past),
+        ];
+        self.form(b"$0,$1,$2,$3,$4", &n)
+    }
+
+    pub fn statistics(&mut self, s: &[u8; 4]) -> io::Result<()> {
+        self.text(b" stats=")?;
+        self.bytes(s)
+    }
 }

@@ -1,14 +1,15 @@
 // What a record hands in. A value that its key cannot have is missing, and the line is no record.
-use crate::record::{value, which};
+use crate::record::value;
 use bins::places::BitPlace;
 use bins::state::Engine;
+use bins::tags::CONTEXTS;
 use cabac::answers::State;
 use cabac_engine::engine::start;
 use case_lent::lent::LIST;
 use hevc_residual::params::{Params, Rdpcm};
 use octet_scan::find;
 use text::lines::part;
-use text_fields::fields::{Number, Octets, decimal, field};
+use text_fields::fields::decimal;
 use text_octets::octets::hex_bytes;
 
 // How many places are lent at most: more than the largest block has, so that places behind it are seen.
@@ -17,309 +18,210 @@ pub const PLACES: usize = 1032;
 // How many are lent to a tray at most.
 pub const LEVELS: usize = 4864;
 
-// Where the numbers of a record stand in the row that `numbers` fills, in the order of its words.
-pub const COUNT: usize = 0;
-
-pub const CONTEXT: usize = 1;
-
-pub const COMPONENT: usize = 2;
-
-pub const QUANTISER: usize = 3;
-
-pub const VALUE: usize = 4;
-
-pub const ROOM: usize = 5;
-
-pub const LENT: usize = 6;
-
-pub const SKIP: usize = 7;
-
-// What the number is where it is not given; no quantiser is 256. Of places there are so many.
-fn usual(k: usize, places: u32) -> u32 {
-    match k {
-        3 => 256,
-        5 => LIST as u32,
-        6 => places,
-        _ => 0,
-    }
-}
-
-// The greatest that it can be.
-fn most(k: usize, places: u32) -> u32 {
-    match k {
-        1 | 3 | 4 => 255,
-        5 => LIST as u32,
-        6 => places,
-        7 => 1,
-        _ => 4294967295,
-    }
-}
-
+// The numbers of a record.
 #[derive(Clone, Copy)]
-pub enum Word {
-    Is(u32),
-    Missing,
+pub struct Numbers {
+    pub count: u32,
+    pub context: u8,
+    pub component: u32,
+    // none where it is not given
+    pub quantiser: Option<u8>,
+    pub value: u8,
+    // how many bytes and how many places are lent
+    pub room: usize,
+    pub places: usize,
+    pub skip: bool,
 }
 
-pub fn number(s: &[u8]) -> Word {
-    match decimal(s) {
-        Number::Is(n) => {
-            if n < 4294967296 {
-                return Word::Is(n as u32);
-            }
-            Word::Missing
-        }
-        Number::Missing => Word::Missing,
+pub fn number(s: &[u8]) -> Option<u32> {
+    u32::try_from(decimal(s)?).ok()
+}
+
+// The number of a key, or what it is where it is not given.
+fn number_or(s: &[u8], key: &[u8], usual: u32) -> Option<u32> {
+    match value(s, key) {
+        b"" => Some(usual),
+        text => number(text),
     }
 }
 
-// A number of a record, as a count of places or bytes.
-pub fn size(n: u32) -> usize {
-    n as usize
+fn octet_or(s: &[u8], key: &[u8], usual: u32) -> Option<u8> {
+    u8::try_from(number_or(s, key, usual)?).ok()
 }
 
-// The k-th number of a record from its value.
-fn kth(s: &[u8], k: usize, places: u32) -> Word {
-    if s.len() == 0 {
-        return Word::Is(usual(k, places));
-    }
-    match number(s) {
-        Word::Is(n) => {
-            if n <= most(k, places) {
-                return Word::Is(n);
-            }
-            Word::Missing
-        }
-        Word::Missing => Word::Missing,
+// So many are lent where it is not given, and no more can be.
+fn lent_or(s: &[u8], key: &[u8], most: usize) -> Option<usize> {
+    match value(s, key) {
+        b"" => Some(most),
+        text => usize::try_from(number(text)?).ok().filter(|n| *n <= most),
     }
 }
 
-// Puts the numbers of a record, and answers whether they are numbers that it can have.
-pub fn numbers(s: &[u8], places: u32, out: &mut [u32; 8]) -> bool {
-    let mut k: usize = 0;
-    while k < 8 {
-        let key = field(b"count context component q value room places skip", k);
-        let Word::Is(n) = kth(value(s, key), k, places) else {
-            return false;
-        };
-        out[k] = n;
-        k += 1;
-    }
-    true
-}
-
-// Puts numbers of 32 bits, parted by commas; answers how many, and 0 where one is none or they are too many.
-pub fn row(s: &[u8], out: &mut [u32; 14]) -> usize {
-    let mut at: usize = 0;
-    let mut k: usize = 0;
-    while k < 14 {
-        let to = find(s, at, s.len(), b',');
-        let Word::Is(n) = number(part(s, at, to)) else {
-            return 0;
-        };
-        out[k] = n;
-        k += 1;
-        if s.len() <= to {
-            return k;
-        }
-        at = to + 1;
-    }
-    0
-}
-
-#[derive(Clone, Copy)]
-pub enum Handed {
-    Is(Engine),
-    // the start on the payload refused
-    Refused(u32),
-    Missing,
-}
-
-fn started(bytes: &[u8]) -> Handed {
-    match start(bytes) {
-        State::Ready(e) => Handed::Is(e),
-        State::Refused(n) => Handed::Refused(n),
+fn quantiser(s: &[u8]) -> Option<Option<u8>> {
+    match s {
+        b"" => Some(None),
+        text => Some(Some(u8::try_from(number(text)?).ok()?)),
     }
 }
 
-// The state that is handed in: where it is not given that of a start on the payload.
-pub fn state(s: &[u8], bytes: &[u8]) -> Handed {
-    if s.len() == 0 {
-        return started(bytes);
+fn flag(n: u32) -> Option<bool> {
+    match n {
+        0 => Some(false),
+        1 => Some(true),
+        _ => None,
     }
-    let mut n = [0u32; 14];
-    let k = row(s, &mut n);
-    if (k == 5) & (n[3] < 2) {
-        let at = size(n[2]);
-        return Handed::Is(Engine {
-            range: n[0],
-            offset: n[1],
-            position: BitPlace(at),
-            ended: n[3] == 1,
-            past: n[4],
-        });
-    }
-    Handed::Missing
 }
 
-#[derive(Clone, Copy)]
-pub enum Chosen {
-    Are(Params),
-    Missing,
+impl Numbers {
+    // Those of a record to which so many places can be lent.
+    pub fn of(s: &[u8], places: usize) -> Option<Numbers> {
+        Some(Numbers {
+            count: number_or(s, b"count", 0)?,
+            context: octet_or(s, b"context", 0)?,
+            component: number_or(s, b"component", 0)?,
+            quantiser: quantiser(value(s, b"q"))?,
+            value: octet_or(s, b"value", 0)?,
+            room: lent_or(s, b"room", LIST)?,
+            places: lent_or(s, b"places", places)?,
+            skip: flag(number_or(s, b"skip", 0)?)?,
+        })
+    }
+}
+
+// So many numbers of 32 bits, parted by commas, and no more.
+pub fn row<const N: usize>(s: &[u8]) -> Option<[u32; N]> {
+    let mut row = [0u32; N];
+    let mut texts = s.split(|b| *b == b',');
+    for n in row.iter_mut() {
+        *n = number(texts.next()?)?;
+    }
+    match texts.next() {
+        Some(_) => None,
+        None => Some(row),
+    }
+}
+
+// The state that is handed in: where it is not given that of a start on the payload, which may refuse.
+pub fn state(s: &[u8], bytes: &[u8]) -> Option<State> {
+    if s.is_empty() {
+        return Some(start(bytes));
+    }
+    let [range, offset, position, ended, past] = row::<5>(s)?;
+    Some(Ok(Engine {
+        range,
+        offset,
+        position: BitPlace(position as usize),
+        ended: flag(ended)?,
+        past,
+    }))
 }
 
 // All but log2, scan and depth are 0 or 1.
-fn are_flags(n: &[u32; 14]) -> bool {
-    let mut k: usize = 3;
-    while k < 13 {
-        if 1 < n[k] {
-            return false;
-        }
-        k += 1;
-    }
-    n[1] < 2
-}
-
-fn params_of(n: &[u32; 14]) -> Params {
-    Params {
+fn params_of(n: [u32; 14]) -> Option<Params> {
+    Some(Params {
         log2: n[0],
-        luma: n[1] == 1,
+        luma: flag(n[1])?,
         scan: n[2],
         depth: n[13],
-        hiding: n[3] == 1,
-        skip_allowed: n[4] == 1,
-        lossless: n[5] == 1,
-        persistent: n[6] == 1,
-        skip_context: n[7] == 1,
-        explicit_rdpcm: n[8] == 1,
-        implicit_rdpcm: n[9] == 1,
-        inter: n[10] == 1,
-        aligning: n[11] == 1,
-        extended: n[12] == 1,
-    }
+        hiding: flag(n[3])?,
+        skip_allowed: flag(n[4])?,
+        lossless: flag(n[5])?,
+        persistent: flag(n[6])?,
+        skip_context: flag(n[7])?,
+        explicit_rdpcm: flag(n[8])?,
+        implicit_rdpcm: flag(n[9])?,
+        inter: flag(n[10])?,
+        aligning: flag(n[11])?,
+        extended: flag(n[12])?,
+    })
 }
 
 // The parameters; where they are not given those of a 4x4 block of luma in scan 0 at depth 8, with all options off.
-pub fn params(s: &[u8]) -> Chosen {
-    let mut n = [0u32; 14];
-    n[0] = 2;
-    n[1] = 1;
-    n[13] = 8;
-    if 0 < s.len() {
-        let k = row(s, &mut n);
-        if k != 14 {
-            return Chosen::Missing;
-        }
-    }
-    if are_flags(&n) {
-        return Chosen::Are(params_of(&n));
-    }
-    Chosen::Missing
-}
-
-// Puts the bytes, of which there must be as many as out has; where they are not given out stays as it is.
-pub fn lent(s: &[u8], out: &mut [u8]) -> bool {
-    if s.len() == 0 {
-        return true;
-    }
-    match hex_bytes(s, out) {
-        Octets::Are(n) => n == out.len(),
-        Octets::Missing => false,
+pub fn params(s: &[u8]) -> Option<Params> {
+    match s {
+        b"" => params_of([2, 1, 0, 0, 0, 0, 0, 0, 0, 0, 0, 0, 0, 8]),
+        text => params_of(row(text)?),
     }
 }
 
-#[derive(Clone, Copy)]
-pub enum RdpcmGiven {
-    Is(Rdpcm),
-    Missing,
-}
-
-// None where it is not given.
-pub fn direction(s: &[u8]) -> RdpcmGiven {
-    if s.len() == 0 {
-        return RdpcmGiven::Is(Rdpcm::None);
+// As many bytes as are lent; where they are not given each is the usual one.
+pub fn octets<const N: usize>(s: &[u8], usual: u8) -> Option<[u8; N]> {
+    let mut octets = [usual; N];
+    if s.is_empty() {
+        return Some(octets);
     }
-    match which(b"-1 0 1", s) {
-        0 => RdpcmGiven::Is(Rdpcm::None),
-        1 => RdpcmGiven::Is(Rdpcm::Horizontal),
-        2 => RdpcmGiven::Is(Rdpcm::Vertical),
-        _ => RdpcmGiven::Missing,
+    match hex_bytes(s, &mut octets) {
+        Some(n) if n == N => Some(octets),
+        _ => None,
     }
 }
 
-#[derive(Clone, Copy)]
-pub enum Signed {
-    Is(i32),
-    Missing,
+// The contexts and the statistics that are lent to a reader or a writer.
+#[derive(Clone, Copy, PartialEq, Eq)]
+pub struct Lent {
+    pub contexts: [u8; CONTEXTS],
+    pub stats: [u8; 4],
 }
 
-// A magnitude with its sign; -n is the complement of n - 1.
-fn of_sign(n: u32, below: bool) -> Signed {
-    if !below {
-        if n < 2147483648 {
-            return Signed::Is(n as i32);
-        }
-        return Signed::Missing;
+impl Lent {
+    // Those of a record.
+    pub fn of(s: &[u8]) -> Option<Lent> {
+        Some(Lent {
+            contexts: octets(value(s, b"ctx"), 64)?,
+            stats: octets(value(s, b"stats"), 0)?,
+        })
     }
-    if n == 0 {
-        return Signed::Missing;
+}
+
+// No direction where it is not given.
+pub fn direction(s: &[u8]) -> Option<Rdpcm> {
+    match s {
+        b"" | b"-1" => Some(Rdpcm::None),
+        b"0" => Some(Rdpcm::Horizontal),
+        b"1" => Some(Rdpcm::Vertical),
+        _ => None,
     }
-    if n <= 2147483648 {
-        return Signed::Is(!((n - 1) as i32));
-    }
-    Signed::Missing
 }
 
 // A number of 32 bits, with a sign before it where it is below 0.
-pub fn integer(s: &[u8]) -> Signed {
-    if s.len() == 0 {
-        return Signed::Missing;
+pub fn integer(s: &[u8]) -> Option<i32> {
+    match s.strip_prefix(b"-") {
+        Some(magnitude) => below(number(magnitude)?),
+        None => i32::try_from(number(s)?).ok(),
     }
-    let below = s[0] == b'-';
-    match number(part(s, below as usize, s.len())) {
-        Word::Is(n) => of_sign(n, below),
-        Word::Missing => Signed::Missing,
+}
+
+// No zero has a sign.
+fn below(magnitude: u32) -> Option<i32> {
+    match magnitude {
+        0 => None,
+        n => i32::try_from(-i64::from(n)).ok(),
     }
 }
 
 // place:level; no place has two, and none is 0.
-fn put_level(s: &[u8], block: &mut [i32; PLACES]) -> bool {
+fn put_level(s: &[u8], block: &mut [i32; PLACES]) -> Option<()> {
     let colon = find(s, 0, s.len(), b':');
-    let Word::Is(place) = number(part(s, 0, colon)) else {
-        return false;
-    };
-    let Signed::Is(v) = integer(part(s, colon + 1, s.len())) else {
-        return false;
-    };
-    put_at(block, place as usize, v)
+    let place = number(part(s, 0, colon))? as usize;
+    let level = integer(part(s, colon + 1, s.len()))?;
+    if PLACES <= place {
+        return None;
+    }
+    if (block[place] != 0) | (level == 0) {
+        return None;
+    }
+    block[place] = level;
+    Some(())
 }
 
-fn put_at(block: &mut [i32; PLACES], i: usize, v: i32) -> bool {
-    if PLACES <= i {
-        return false;
+// The levels in a block of zeros; a dash stands for none.
+pub fn levels(s: &[u8]) -> Option<[i32; PLACES]> {
+    let mut block = [0i32; PLACES];
+    if s == b"-".as_slice() {
+        return Some(block);
     }
-    if block[i] != 0 {
-        return false;
+    for level in s.split(|b| *b == b',') {
+        put_level(level, &mut block)?;
     }
-    block[i] = v;
-    v != 0
-}
-
-// Puts the levels into a block of zeros; a dash stands for none.
-pub fn levels(s: &[u8], block: &mut [i32; PLACES]) -> bool {
-    if s.len() == 1 {
-        return s[0] == b'-';
-    }
-    let mut at: usize = 0;
-    while at < s.len() {
-        let to = find(s, at, s.len(), b',');
-        if !put_level(part(s, at, to), block) {
-            return false;
-        }
-        if s.len() <= to {
-            return true;
-        }
-        at = to + 1;
-    }
-    false
+    Some(block)
 }

@@ -2,24 +2,93 @@
 use crate::{scales, slices, values};
 use bins::state::Engine;
 use cabac_engine::engine::start;
+use case_blocks::coder::Coder;
+use case_blocks::engine::Entry;
 use case_blocks::{blocks, engine, writes};
 use case_h264::h264;
 use case_lent::lent::LIST;
-use case_text::answer::NONE;
-use case_text::given::{Handed, LEVELS, PLACES};
-use case_text::record::{first, is_by, value, which};
-use case_text::{answer, given};
+use case_text::answer::{Answer, Fault};
+use case_text::given;
+use case_text::given::{LEVELS, Numbers, PLACES};
+use case_text::record::{first, is_by, value};
 use case_trays::{packs, trays};
-use check::same;
 use std::io;
 use text::lines::part;
-use text_fields::fields::Octets;
 use text_octets::octets::hex_bytes;
+
+// Those that go on from a state in a payload.
+#[derive(Clone, Copy, PartialEq, Eq)]
+enum Reader {
+    Engine(Entry),
+    Block(Coder),
+    Cross,
+    Slice,
+    Tray,
+    H264,
+}
+
+#[derive(Clone, Copy, PartialEq, Eq)]
+enum Kind {
+    Start,
+    From(Reader),
+    List(Coder),
+    Write(Coder),
+    CrossList,
+    CrossWrite,
+    Init,
+    InitValue,
+    Pack,
+    PackScale,
+    PackTray,
+    H264List,
+    H264Write,
+    H264Init,
+}
+
+fn reader_of(word: &[u8]) -> Option<Reader> {
+    match word {
+        b"decision" => Some(Reader::Engine(Entry::Decision)),
+        b"bypass" => Some(Reader::Engine(Entry::Bypass)),
+        b"single" => Some(Reader::Engine(Entry::Single)),
+        b"raw" => Some(Reader::Engine(Entry::Raw)),
+        b"terminate" => Some(Reader::Engine(Entry::Terminate)),
+        b"align" => Some(Reader::Engine(Entry::Align)),
+        b"restart" => Some(Reader::Engine(Entry::Restart)),
+        b"alignbypass" => Some(Reader::Engine(Entry::AlignBypass)),
+        b"block" => Some(Reader::Block(Coder::Full)),
+        b"plainblock" => Some(Reader::Block(Coder::Plain)),
+        b"cross" => Some(Reader::Cross),
+        b"slice" => Some(Reader::Slice),
+        b"tray" => Some(Reader::Tray),
+        b"h264" => Some(Reader::H264),
+        _ => None,
+    }
+}
+
+fn kind_of(word: &[u8]) -> Option<Kind> {
+    match word {
+        b"start" => Some(Kind::Start),
+        b"list" => Some(Kind::List(Coder::Full)),
+        b"plainlist" => Some(Kind::List(Coder::Plain)),
+        b"write" => Some(Kind::Write(Coder::Full)),
+        b"plainwrite" => Some(Kind::Write(Coder::Plain)),
+        b"crosslist" => Some(Kind::CrossList),
+        b"crosswrite" => Some(Kind::CrossWrite),
+        b"init" => Some(Kind::Init),
+        b"initvalue" => Some(Kind::InitValue),
+        b"pack" => Some(Kind::Pack),
+        b"packscale" => Some(Kind::PackScale),
+        b"packtray" => Some(Kind::PackTray),
+        b"h264list" => Some(Kind::H264List),
+        b"h264write" => Some(Kind::H264Write),
+        b"h264init" => Some(Kind::H264Init),
+        _ => reader_of(word).map(Kind::From),
+    }
+}
 
 // Records of requests that have not landed.
 pub fn is_later(line: &[u8]) -> bool {
-    let k = which(b"kept figures pair", first(line));
-    k < 3
+    matches!(first(line), b"kept" | b"figures" | b"pair")
 }
 
 // The keys of each kind; those behind a ? may be missing.
@@ -69,170 +138,124 @@ fn high(e: u8) -> u8 {
     if e < 240 { 0 } else { 1 }
 }
 
-// The first n bytes, entries of one byte each, as entries of two.
-fn widened(bytes: &mut [u8; LIST], n: usize) -> Octets {
+// The first n bytes, entries of one byte each, as entries of two; answers how many bytes they are.
+fn widened(bytes: &mut [u8; LIST], n: usize) -> Option<usize> {
     if 36864 < n {
-        return Octets::Missing;
+        return None;
     }
-    let mut i = n;
-    while 0 < i {
-        i -= 1;
+    for i in (0..n).rev() {
         let e = bytes[i];
         bytes[2 * i] = low(e);
         bytes[2 * i + 1] = high(e);
     }
-    Octets::Are(2 * n)
+    Some(2 * n)
 }
 
-// The bytes that a record is about: it has one of these keys, or none.
-fn decoded(s: &[u8], bytes: &mut [u8; LIST]) -> Octets {
+// The bytes that a record is about: it has one of these keys, or none. A list of document 01's form is widened.
+fn taken(s: &[u8], bytes: &mut [u8; LIST]) -> Option<usize> {
+    let narrow = value(s, b"list1");
+    if !narrow.is_empty() {
+        let n = hex_bytes(narrow, bytes)?;
+        return widened(bytes, n);
+    }
     let payload = value(s, b"payload");
-    if 0 < payload.len() {
+    if !payload.is_empty() {
         return hex_bytes(payload, bytes);
     }
     let list = value(s, b"list");
-    if 0 < list.len() {
+    if !list.is_empty() {
         return hex_bytes(list, bytes);
     }
     hex_bytes(value(s, b"values"), bytes)
 }
 
-// The same, or those of a list of document 01's form.
-fn taken(s: &[u8], bytes: &mut [u8; LIST]) -> Octets {
-    let narrow = value(s, b"list1");
-    if narrow.len() == 0 {
-        return decoded(s, bytes);
-    }
-    match hex_bytes(narrow, bytes) {
-        Octets::Are(n) => widened(bytes, n),
-        Octets::Missing => Octets::Missing,
-    }
-}
-
-// By the kind's number among those with a state; those before blocks are the engine's.
-fn of_state(
-    out: &impl Print,
-    kind: usize,
+fn from_state(
+    a: &mut Answer<'_, impl Print>,
+    reader: Reader,
     s: &[u8],
     bytes: &[u8],
     e: Engine,
-    n: &[u32; 8],
-    at: usize,
-) -> io::Result<usize> {
-    match kind {
-        8 => blocks::block(out, s, false, bytes, e, given::size(n[given::LENT]), at),
-        9 => scales::payload(out, s, bytes, e, n[given::COMPONENT], at),
-        10 => slices::slice(out, s, bytes, e, at),
-        11 => blocks::block(out, s, true, bytes, e, given::size(n[given::LENT]), at),
-        12 => trays::tray(out, s, bytes, e, given::size(n[given::LENT]), at),
-        13 => h264::payload(out, s, bytes, e, given::size(n[given::LENT]), at),
-        _ => engine::answered(
-            out,
-            kind,
-            s,
-            bytes,
-            e,
-            n[given::COUNT],
-            (n[given::CONTEXT] % 256) as u8,
-            at,
-        ),
+    n: &Numbers,
+) -> Result<(), Fault> {
+    match reader {
+        Reader::Engine(entry) => {
+            engine::answered(a, entry, bytes, e, n)?;
+            Ok(())
+        }
+        Reader::Block(coder) => blocks::block(a, s, coder, bytes, e, n.places),
+        Reader::Cross => scales::payload(a, s, bytes, e, n.component),
+        Reader::Slice => slices::slice(a, s, bytes, e),
+        Reader::Tray => trays::tray(a, s, bytes, e, n.places),
+        Reader::H264 => h264::payload(a, s, bytes, e, n.places),
     }
 }
 
 fn of_payload(
-    out: &impl Print,
-    kind: usize,
+    a: &mut Answer<'_, impl Print>,
+    reader: Reader,
     s: &[u8],
     bytes: &[u8],
-    n: &[u32; 8],
-    at: usize,
-) -> io::Result<usize> {
-    match given::state(value(s, b"state"), bytes) {
-        Handed::Is(e) => of_state(out, kind, s, bytes, e, n, at),
-        Handed::Refused(m) => answer::text(out, s, answer::refusal(out, s, at, m)?, b" at=start"),
-        Handed::Missing => Ok(NONE),
+    n: &Numbers,
+) -> Result<(), Fault> {
+    match given::state(value(s, b"state"), bytes).ok_or(Fault::NoRecord)? {
+        Ok(e) => from_state(a, reader, s, bytes, e, n),
+        Err(m) => {
+            a.refusal(m)?;
+            a.text(b" at=start")?;
+            Ok(())
+        }
     }
 }
 
-// By the kind's number among those without a state: in two functions, since one of so many arms is dear to prove.
-fn of_other(
-    out: &impl Print,
-    kind: usize,
+fn answered(
+    a: &mut Answer<'_, impl Print>,
+    kind: Kind,
     s: &[u8],
     bytes: &[u8],
-    n: &[u32; 8],
-    at: usize,
-) -> io::Result<usize> {
+    n: &Numbers,
+) -> Result<(), Fault> {
+    let q = n.quantiser.unwrap_or(0);
     match kind {
-        0 => engine::ready(out, s, at, start(bytes)),
-        1 => blocks::list(out, s, false, bytes, given::size(n[given::LENT]), at),
-        2 => writes::write(out, s, false, n, at),
-        3 => scales::list(out, s, bytes, n[given::COMPONENT], at),
-        4 => scales::write(out, s, n, at),
-        5 => values::contexts(out, s, bytes, (n[given::QUANTISER] % 256) as u8, at),
-        6 => blocks::list(out, s, true, bytes, given::size(n[given::LENT]), at),
-        _ => of_later(out, kind, s, bytes, n, at),
+        Kind::Start => said(engine::ready(a, start(bytes))),
+        Kind::From(reader) => of_payload(a, reader, s, bytes, n),
+        Kind::List(coder) => blocks::list(a, s, coder, bytes, n.places),
+        Kind::Write(coder) => writes::write(a, s, coder, n),
+        Kind::CrossList => said(scales::list(a, bytes, n.component)),
+        Kind::CrossWrite => scales::write(a, s, n.component, n.room),
+        Kind::Init => said(values::contexts(a, bytes, q)),
+        Kind::InitValue => said(values::value(a, n.value, n.quantiser)),
+        Kind::Pack => packs::pack(a, s, bytes, n.room),
+        Kind::PackScale => packs::scale(a, s, bytes, n.component, n.room),
+        Kind::PackTray => packs::tray(a, s, bytes, n.room),
+        Kind::H264List => said(h264::list(a, bytes, n.places)),
+        Kind::H264Write => h264::write(a, s, n.room, n.places),
+        Kind::H264Init => h264::contexts(a, s, q),
     }
 }
 
-fn of_later(
-    out: &impl Print,
-    kind: usize,
-    s: &[u8],
-    bytes: &[u8],
-    n: &[u32; 8],
-    at: usize,
-) -> io::Result<usize> {
-    let room = given::size(n[given::ROOM]);
-    match kind {
-        7 => writes::write(out, s, true, n, at),
-        8 => packs::pack(out, s, bytes, room, at),
-        9 => h264::list(out, s, bytes, given::size(n[given::LENT]), at),
-        10 => h264::write(out, s, room, given::size(n[given::LENT]), at),
-        11 => h264::contexts(out, s, (n[given::QUANTISER] % 256) as u8, at),
-        12 => packs::scale(out, s, bytes, n[given::COMPONENT], room, at),
-        13 => packs::tray(out, s, bytes, room, at),
-        _ => values::value(
-            out,
-            s,
-            (n[given::VALUE] % 256) as u8,
-            n[given::QUANTISER],
-            at,
-        ),
-    }
+// An answer to a record that hands in no more than its numbers and bytes.
+fn said(r: io::Result<()>) -> Result<(), Fault> {
+    r?;
+    Ok(())
 }
 
 // How many places can be lent.
-fn lendable(kind: &[u8]) -> u32 {
-    if same(kind, b"tray") {
-        return LEVELS as u32;
+fn lendable(kind: Kind) -> usize {
+    if kind == Kind::From(Reader::Tray) {
+        LEVELS
+    } else {
+        PLACES
     }
-    PLACES as u32
 }
 
-fn answered(out: &impl Print, s: &[u8], bytes: &[u8], at: usize) -> io::Result<usize> {
-    let mut n = [0u32; 8];
-    if !given::numbers(s, lendable(first(s)), &mut n) {
-        return Ok(NONE);
-    }
-    let kind = which(
-        b"decision bypass single raw terminate align restart alignbypass block cross slice plainblock tray h264",
-        first(s),
-    );
-    if kind < 14 {
-        return of_payload(out, kind, s, bytes, &n, at);
-    }
-    let kind = which(
-        b"start list write crosslist crosswrite init plainlist plainwrite pack h264list h264write h264init packscale packtray initvalue",
-        first(s),
-    );
-    of_other(out, kind, s, bytes, &n, at)
-}
-
-// The answer to a record, held against its text from a place on.
-pub fn answer(out: &impl Print, s: &[u8], at: usize, bytes: &mut [u8; LIST]) -> io::Result<usize> {
-    match taken(s, bytes) {
-        Octets::Are(n) => answered(out, s, part(bytes, 0, n), at),
-        Octets::Missing => Ok(NONE),
-    }
+// The answer to a record.
+pub fn answer(
+    a: &mut Answer<'_, impl Print>,
+    s: &[u8],
+    bytes: &mut [u8; LIST],
+) -> Result<(), Fault> {
+    let kind = kind_of(first(s)).ok_or(Fault::NoRecord)?;
+    let k = taken(s, bytes).ok_or(Fault::NoRecord)?;
+    let n = Numbers::of(s, lendable(kind)).ok_or(Fault::NoRecord)?;
+    answered(a, kind, s, part(bytes, 0, k), &n)
 }

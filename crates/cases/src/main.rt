@@ -24,7 +24,7 @@ mod slices; // slices.rt: whole slices, bin by bin
 mod values; // values.rt: initialisation
 
 use case_lent::lent::LIST;
-use case_text::answer::{NONE, SHOWN};
+use case_text::answer::{Answer, Fault};
 use case_text::record;
 use std::io;
 use std::io::Read;
@@ -34,25 +34,65 @@ use text::{lines, write};
 // The longest line, with its line feed.
 const LINE: usize = 262144;
 
-// What a line turns out to be, and its place in the tally; behind them all records. Those that agreed are counted from the last remark on.
-const AGREES: usize = 0;
+// No run comes near it: it keeps the sums from wrapping.
+const MOST: u32 = 1000000000;
 
-const WRONG: usize = 1;
+// What a line turns out to be.
+#[derive(Clone, Copy, PartialEq, Eq)]
+enum Outcome {
+    Agrees,
+    Wrong,
+    NoRecord,
+    Later,
+    Remark,
+}
 
-const OTHER: usize = 2;
+// How many lines were each, and how many records there were. Those that agreed are counted from the last remark on.
+#[derive(Clone, Copy)]
+struct Tally {
+    agreed: u32,
+    wrong: u32,
+    no_records: u32,
+    later: u32,
+    records: u32,
+}
 
-const LATER: usize = 3;
+fn one_more(n: u32) -> u32 {
+    if n < MOST { n + 1 } else { n }
+}
 
-const REMARK: usize = 4;
-
-const RECORDS: usize = 5;
-
-// No run comes near the bound: it keeps the sums from wrapping.
-fn count(tally: &mut [u32; 6], k: usize) {
-    if k < 6 {
-        if tally[k] < 1000000000 {
-            tally[k] += 1;
+impl Tally {
+    fn count(&mut self, line: Outcome) {
+        match line {
+            Outcome::Agrees => {
+                self.agreed = one_more(self.agreed);
+                self.records = one_more(self.records);
+            }
+            Outcome::Wrong => {
+                self.wrong = one_more(self.wrong);
+                self.records = one_more(self.records);
+            }
+            Outcome::NoRecord => self.no_records = one_more(self.no_records),
+            Outcome::Later => self.later = one_more(self.later),
+            Outcome::Remark => {}
         }
+    }
+
+    // Says how many agreed, and counts from here on.
+    fn agreed(&mut self, out: &impl Print) -> io::Result<()> {
+        if 0 < self.agreed {
+            said(out, self.agreed, b" ok\n")?;
+            self.agreed = 0;
+        }
+        Ok(())
+    }
+
+    fn total(&mut self, out: &impl Print) -> io::Result<()> {
+        self.agreed(out)?;
+        said(out, self.no_records, b" lines are no records, ")?;
+        said(out, self.later, b" are records of later requests\n")?;
+        said(out, self.records, b" records, ")?;
+        said(out, self.wrong, b" wrong\n")
     }
 }
 
@@ -62,22 +102,6 @@ fn said(out: &impl Print, n: u32, what: &[u8]) -> io::Result<()> {
     write::text(out, what)
 }
 
-fn agreed(out: &impl Print, tally: &mut [u32; 6]) -> io::Result<()> {
-    if 0 < tally[AGREES] {
-        said(out, tally[AGREES], b" ok\n")?;
-        tally[AGREES] = 0;
-    }
-    Ok(())
-}
-
-fn total(out: &impl Print, tally: &mut [u32; 6]) -> io::Result<()> {
-    agreed(out, tally)?;
-    said(out, tally[OTHER], b" lines are no records, ")?;
-    said(out, tally[LATER], b" are records of later requests\n")?;
-    said(out, tally[RECORDS], b" records, ")?;
-    said(out, tally[WRONG], b" wrong\n")
-}
-
 // A line of output: a word before a text.
 fn told(out: &impl Print, word: &[u8], s: &[u8]) -> io::Result<()> {
     write::text(out, word)?;
@@ -85,26 +109,31 @@ fn told(out: &impl Print, word: &[u8], s: &[u8]) -> io::Result<()> {
 }
 
 // Of a long line its first letters.
-fn no_record(out: &impl Print, s: &[u8]) -> io::Result<usize> {
+fn no_record(out: &impl Print, s: &[u8]) -> io::Result<Outcome> {
     told(out, b"not a record: ", part(s, 0, 160))?;
-    Ok(OTHER)
+    Ok(Outcome::NoRecord)
 }
 
 // What belongs to request (xii), the state that a refusal reached, is no part of an answer yet.
 fn without_reached(s: &[u8], from: usize) -> &[u8] {
-    let at = record::place_of(s, from, b"reached");
-    if at == 0 {
-        return s;
+    match record::place_of(s, from, b"reached") {
+        Some(at) if 0 < at => part(s, 0, at - 1),
+        _ => s,
     }
-    if at < s.len() {
-        return part(s, 0, at - 1);
+}
+
+// Whether a record is answered.
+fn is_answered(r: Result<(), Fault>) -> io::Result<bool> {
+    match r {
+        Ok(()) => Ok(true),
+        Err(Fault::NoRecord) => Ok(false),
+        Err(Fault::Unwritten(e)) => Err(e),
     }
-    s
 }
 
 // The record, what was answered, and what is wanted from a place on.
-fn show(
-    out: &impl Print,
+fn show<P: Print>(
+    out: &P,
     word: &[u8],
     s: &[u8],
     from: usize,
@@ -112,78 +141,70 @@ fn show(
 ) -> io::Result<()> {
     told(out, word, part(s, 0, from))?;
     write::text(out, b"  answered ")?;
-    kinds::answer(out, s, SHOWN, bytes)?;
+    let mut shown = Answer::Shown(out);
+    is_answered(kinds::answer(&mut shown, s, bytes))?;
     told(out, b"\n  wanted   ", part(s, from, s.len()))
 }
 
 // A record whose result, from a place on, is to agree or not to.
-fn judged(
-    out: &impl Print,
+fn judged<P: Print>(
+    out: &P,
     s: &[u8],
     from: usize,
     agrees: bool,
     bytes: &mut [u8; LIST],
-) -> io::Result<usize> {
-    let to = kinds::answer(out, s, from, bytes)?;
-    if to == NONE {
+) -> io::Result<Outcome> {
+    let mut held: Answer<'_, P> = Answer::wanted(s, from);
+    if !is_answered(kinds::answer(&mut held, s, bytes))? {
         return no_record(out, s);
     }
-    let same = to == s.len();
-    if same & agrees {
-        return Ok(AGREES);
+    match (held.is_wanted(), agrees) {
+        (true, true) => Ok(Outcome::Agrees),
+        (false, false) => {
+            show(out, b"told apart: ", s, from, bytes)?;
+            Ok(Outcome::Agrees)
+        }
+        _ => {
+            show(out, b"WRONG: ", s, from, bytes)?;
+            Ok(Outcome::Wrong)
+        }
     }
-    if same == agrees {
-        show(out, b"told apart: ", s, from, bytes)?;
-        return Ok(AGREES);
-    }
-    show(out, b"WRONG: ", s, from, bytes)?;
-    Ok(WRONG)
 }
 
-fn parted(out: &impl Print, s: &[u8], agrees: bool, bytes: &mut [u8; LIST]) -> io::Result<usize> {
-    let at = record::arrow(s);
-    if s.len() <= at {
+fn parted(out: &impl Print, s: &[u8], agrees: bool, bytes: &mut [u8; LIST]) -> io::Result<Outcome> {
+    let Some(at) = record::arrow(s) else {
         return no_record(out, s);
-    }
-    if s.len() - at < 5 {
+    };
+    let from = at + 4;
+    if s.len() <= from {
         return no_record(out, s);
     }
     let line = part(s, 0, at);
     if kinds::has_keys(line) {
-        return judged(out, without_reached(s, at + 4), at + 4, agrees, bytes);
+        return judged(out, without_reached(s, from), from, agrees, bytes);
     }
     if kinds::is_later(line) {
         told(out, b"not a record yet: ", record::first(line))?;
-        return Ok(LATER);
+        return Ok(Outcome::Later);
     }
     no_record(out, s)
 }
 
-fn lined(out: &impl Print, s: &[u8], bytes: &mut [u8; LIST]) -> io::Result<usize> {
-    if s.len() == 0 {
-        return no_record(out, s);
-    }
-    match s[0] {
-        b'#' => Ok(REMARK),
-        b'!' => parted(out, part(s, 1, s.len()), false, bytes),
+fn lined(out: &impl Print, s: &[u8], bytes: &mut [u8; LIST]) -> io::Result<Outcome> {
+    match s {
+        [] => no_record(out, s),
+        [b'#', ..] => Ok(Outcome::Remark),
+        [b'!', record @ ..] => parted(out, record, false, bytes),
         _ => parted(out, s, true, bytes),
     }
 }
 
 // A line of the input. A remark is written as it stands, behind the number of records that agreed before it.
-fn taken(
-    out: &impl Print,
-    tally: &mut [u32; 6],
-    s: &[u8],
-    bytes: &mut [u8; LIST],
-) -> io::Result<()> {
-    let k = lined(out, s, bytes)?;
-    count(tally, k);
-    if k < OTHER {
-        count(tally, RECORDS);
-    }
-    if k == REMARK {
-        agreed(out, tally)?;
+fn taken(out: &impl Print, tally: &mut Tally, s: &[u8], bytes: &mut [u8; LIST]) -> io::Result<()> {
+    let line = lined(out, s, bytes)?;
+    tally.count(line);
+    if line == Outcome::Remark {
+        tally.agreed(out)?;
         write::line(out, s)?;
     }
     Ok(())
@@ -193,14 +214,13 @@ fn taken(
 #[derive(Clone, Copy)]
 struct Held {
     window: Window,
-    more: bool,
     tail: bool,
 }
 
 // A line that has its line feed and is no tail.
 fn whole(
     out: &impl Print,
-    tally: &mut [u32; 6],
+    tally: &mut Tally,
     s: &[u8],
     cut: bool,
     tail: bool,
@@ -210,73 +230,59 @@ fn whole(
         return Ok(());
     }
     if cut {
-        count(tally, no_record(out, s)?);
+        tally.count(no_record(out, s)?);
         return Ok(());
     }
     taken(out, tally, s, bytes)
 }
 
+// What goes on behind the next line; nothing where the input has ended.
 fn turn(
     input: &mut impl Read,
     out: &impl Print,
     buffer: &mut [u8; LINE],
     bytes: &mut [u8; LIST],
-    tally: &mut [u32; 6],
+    tally: &mut Tally,
     h: Held,
-) -> io::Result<Held> {
+) -> io::Result<Option<Held>> {
     let window = h.window;
     match lines::next(input, buffer, window)? {
         Line::Is(from, to, left) => {
-            whole(
-                out,
-                tally,
-                part(buffer, from, to),
-                left.from == to,
-                h.tail,
-                bytes,
-            )?;
-            Ok(Held {
+            let cut = left.from == to;
+            whole(out, tally, part(buffer, from, to), cut, h.tail, bytes)?;
+            Ok(Some(Held {
                 window: left,
-                more: true,
                 tail: false,
-            })
+            }))
         }
-        Line::Ended => Ok(Held {
-            window,
-            more: false,
-            tail: false,
-        }),
+        Line::Ended => Ok(None),
         Line::TooLong => {
             whole(out, tally, b"a line that is too long", true, h.tail, bytes)?;
-            Ok(Held {
+            Ok(Some(Held {
                 window: lines::nothing_read(),
-                more: true,
                 tail: true,
-            })
+            }))
         }
     }
 }
 
-// Nothing says that the input ends: the loop counts down from a number that no run uses up.
+// Nothing says that the input ends: no run uses up so many turns.
 fn turns(
     input: &mut impl Read,
     out: &impl Print,
     buffer: &mut [u8; LINE],
     bytes: &mut [u8; LIST],
-    tally: &mut [u32; 6],
+    tally: &mut Tally,
 ) -> io::Result<()> {
     let mut h = Held {
         window: lines::nothing_read(),
-        more: true,
         tail: false,
     };
-    let mut left = u64::MAX;
-    while 0 < left {
-        h = turn(input, out, buffer, bytes, tally, h)?;
-        if !h.more {
-            return total(out, tally);
+    for _ in 0..u64::MAX {
+        match turn(input, out, buffer, bytes, tally, h)? {
+            Some(next) => h = next,
+            None => return tally.total(out),
         }
-        left -= 1;
     }
     Ok(())
 }
@@ -284,7 +290,13 @@ fn turns(
 fn main(rt: HostRuntime) -> io::Result<()> {
     let mut buffer = [0u8; LINE];
     let mut bytes = [0u8; LIST];
-    let mut tally = [0u32; 6];
+    let mut tally = Tally {
+        agreed: 0,
+        wrong: 0,
+        no_records: 0,
+        later: 0,
+        records: 0,
+    };
     turns(
         &mut rt.stdin(),
         &rt.stdout(),

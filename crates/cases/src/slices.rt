@@ -5,17 +5,15 @@
 // It begins by a start on the payload, or by a restart from a state. Contexts are 199. An operation is two bytes, the high one first:
 // 2·context + bin, or fffe, ffff for bypass, or fffc, fffd for terminate. The bins are counted up to one that is another, or is refused.
 use bins::state::Engine;
-use cabac::answers::{Bins, Decision, State};
+use cabac::answers::{Bins, DecidedBin, ReadBins, State};
 use cabac_bins::decode::{decode_bin, decode_terminate};
 use cabac_bypass::bypass::{decode_bypass, decode_bypass_bits};
 use cabac_engine::engine::restart;
-use case_blocks::engine;
-use case_text::answer::NONE;
+use case_text::answer::{Answer, Fault};
+use case_text::given;
 use case_text::record::value;
-use case_text::{answer, given};
 use std::io;
 use text::lines::part;
-use text_fields::fields::Octets;
 use text_octets::octets::hex_bytes;
 
 // How many contexts a slice of any syntax has, and how many bytes its operations at most.
@@ -25,14 +23,23 @@ pub const OPERATIONS: usize = 16384;
 
 fn decided(contexts: &mut [u8; CONTEXTS], number: usize, bytes: &[u8], e: Engine) -> Bins {
     if CONTEXTS <= number {
-        return Bins::Refused(0);
+        return Err(0);
     }
     match decode_bin(bytes, e, contexts[number]) {
-        Decision::Bin(bin, context, next) => {
+        Ok(
+            DecidedBin {
+                bin: bin,
+                context: context,
+                state: next,
+            },
+        ) => {
             contexts[number] = context;
-            Bins::Read(bin as u32, next)
+            Ok(ReadBins {
+                value: u32::from(bin),
+                state: next,
+            })
         }
-        Decision::Refused(n) => Bins::Refused(n),
+        Err(n) => Err(n),
     }
 }
 
@@ -48,86 +55,73 @@ fn step(contexts: &mut [u8; CONTEXTS], high: u8, low: u8, bytes: &[u8], e: Engin
     }
 }
 
+// How many bins agreed, and the state behind them.
 #[derive(Clone, Copy)]
-pub struct Ran {
-    pub bins: usize,
-    pub next: Engine,
+struct Ran {
+    bins: usize,
+    next: Engine,
 }
 
 fn run(contexts: &mut [u8; CONTEXTS], ops: &[u8], bytes: &[u8], first: Engine) -> Ran {
     let mut e = first;
-    let mut i: usize = 0;
-    while i < ops.len() / 2 {
-        let Bins::Read(bin, next) = step(contexts, ops[2 * i], ops[2 * i + 1], bytes, e) else {
-            return Ran { bins: i, next: e };
-        };
-        if bin != (ops[2 * i + 1] % 2) as u32 {
-            return Ran { bins: i, next: e };
+    for i in 0..ops.len() / 2 {
+        let low = ops[2 * i + 1];
+        match step(contexts, ops[2 * i], low, bytes, e) {
+            Ok(
+                ReadBins {
+                    value: bin,
+                    state: next,
+                },
+            ) if bin == u32::from(low % 2) => e = next,
+            _ => return Ran { bins: i, next: e },
         }
-        e = next;
-        i += 1;
     }
-    Ran { bins: i, next: e }
-}
-
-fn changes(
-    out: &impl Print,
-    s: &[u8],
-    at: usize,
-    before: &[u8; CONTEXTS],
-    after: &[u8; CONTEXTS],
-) -> io::Result<usize> {
-    answer::changes(out, s, at, before, after)
+    Ran {
+        bins: ops.len() / 2,
+        next: e,
+    }
 }
 
 fn from(
-    out: &impl Print,
-    s: &[u8],
+    a: &mut Answer<'_, impl Print>,
     bytes: &[u8],
     first: State,
     contexts: &[u8; CONTEXTS],
     ops: &[u8],
-    at: usize,
-) -> io::Result<usize> {
+) -> io::Result<()> {
     match first {
-        State::Ready(e) => {
+        Ok(e) => {
             let mut after = *contexts;
             let r = run(&mut after, ops, bytes, e);
             let next = r.next;
-            let to = engine::state(out, s, at, b"answer=0 begun=$1,$2,$3,$4,$5", 0, e, 0)?;
-            let to = answer::decimal(out, s, answer::text(out, s, to, b" bins=")?, r.bins as u64)?;
-            let to = engine::state(out, s, to, b" state=$1,$2,$3,$4,$5", 0, next, 0)?;
-            changes(out, s, to, contexts, &after)
+            a.state(b"answer=0 begun=", e)?;
+            a.form(b" bins=$0", &[r.bins as u64])?;
+            a.state(b" state=", next)?;
+            a.changes(contexts, &after)
         }
-        State::Refused(n) => answer::refusal(out, s, at, n),
+        Err(n) => a.refusal(n),
     }
 }
 
 // Without a state it begins at the start of the payload, and e is the state there.
 fn begun(s: &[u8], bytes: &[u8], e: Engine) -> State {
-    let given = value(s, b"state");
-    if given.len() == 0 {
-        return State::Ready(e);
+    if value(s, b"state").is_empty() {
+        return Ok(e);
     }
     restart(bytes, e)
 }
 
-pub fn slice(out: &impl Print, s: &[u8], bytes: &[u8], e: Engine, at: usize) -> io::Result<usize> {
-    let mut contexts = [0u8; CONTEXTS];
+pub fn slice(
+    a: &mut Answer<'_, impl Print>,
+    s: &[u8],
+    bytes: &[u8],
+    e: Engine,
+) -> Result<(), Fault> {
     let mut ops = [0u8; OPERATIONS];
-    if !given::lent(value(s, b"contexts"), &mut contexts) {
-        return Ok(NONE);
-    }
-    match hex_bytes(value(s, b"ops"), &mut ops) {
-        Octets::Are(n) => from(
-            out,
-            s,
-            bytes,
-            begun(s, bytes, e),
-            &contexts,
-            part(&ops, 0, n),
-            at,
-        ),
-        Octets::Missing => Ok(NONE),
-    }
+    let contexts = given::octets(value(s, b"contexts"), 0).ok_or(Fault::NoRecord)?;
+    let Some(n) = hex_bytes(value(s, b"ops"), &mut ops) else {
+        return Err(Fault::NoRecord);
+    };
+    from(a, bytes, begun(s, bytes, e), &contexts, part(&ops, 0, n))?;
+    Ok(())
 }

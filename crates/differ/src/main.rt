@@ -10,7 +10,6 @@ ghost use Rattle.std.specs.Prelude.{◌≤◌, length};
 use bins::state::Engine;
 use bins::tags::CONTEXTS;
 use book_lines::form::refusal;
-use cabac::answers::State;
 use cabac_engine::engine::start;
 use cabac_init::contexts::init_contexts;
 use frame::fields::{flags_refusal, params};
@@ -31,10 +30,7 @@ const MOST: usize = 4234;
 const FRONT: usize = 138;
 
 fn byte(s: &[u8], i: usize) -> u8 {
-    if i < s.len() {
-        return s[i];
-    }
-    0
+    s.get(i).copied().unwrap_or(0)
 }
 
 // The frames differ in a byte before the payloads that is none of the two of the length.
@@ -48,16 +44,9 @@ fn differ_at(a: &[u8], b: &[u8], i: usize) -> bool {
     7 < i
 }
 
-// The first such byte; FRONT where there is none.
-fn first_other(a: &[u8], b: &[u8]) -> usize {
-    let mut i: usize = 0;
-    while i < FRONT {
-        if differ_at(a, b, i) {
-            return i;
-        }
-        i += 1;
-    }
-    FRONT
+// The first such byte.
+fn first_other(a: &[u8], b: &[u8]) -> Option<usize> {
+    (0..FRONT).find(|i| differ_at(a, b, *i))
 }
 
 // The payloads, from the state behind the first one's start and with the contexts of the front, which is the same for both.
@@ -81,8 +70,8 @@ fn started(out: &impl Print, a: &[u8], b: &[u8]) -> io::Result<()>
     }
     let first = part(a, FRONT, a.len());
     match start(first) {
-        State::Ready(e) => payloads(out, a, first, part(b, FRONT, b.len()), e),
-        State::Refused(m) => words::unread(out, m),
+        Ok(e) => payloads(out, a, first, part(b, FRONT, b.len()), e),
+        Err(m) => words::unread(out, m),
     }
 }
 
@@ -93,8 +82,7 @@ fn pair(out: &impl Print, a: &[u8], b: &[u8]) -> io::Result<()> {
     if b.len() < FRONT {
         return Ok(());
     }
-    let i = first_other(a, b);
-    if i < FRONT {
+    if let Some(i) = first_other(a, b) {
         return words::front(out, i);
     }
     words::answer(out, b"the first ", judge::judge(a))?;
@@ -103,115 +91,93 @@ fn pair(out: &impl Print, a: &[u8], b: &[u8]) -> io::Result<()> {
     started(out, a, b)
 }
 
-// What goes on from line to line: whether a first frame waits, and how many bytes it has.
+// What goes on from line to line. The first line of a pair waits for the second: how many bytes its frame has, or none where it is no frame.
 #[derive(Clone, Copy)]
 struct Held {
     window: Window,
     number: u64,
-    waits: bool,
-    bytes: usize,
-    more: bool,
+    first: Option<Option<usize>>,
 }
 
-// A line that is no frame.
-fn no_frame(out: &impl Print, number: u64, n: u32) -> io::Result<usize> {
-    words::no_frame(out, number, n)?;
-    Ok(0)
-}
-
-// A frame's bytes, how many; 0 where the line is no frame.
+// A frame's bytes, how many; none where the line is no frame.
 fn spelled(
     out: &impl Print,
     number: u64,
     line: &[u8],
     bytes: &mut [u8; MOST],
-) -> io::Result<usize> {
+) -> io::Result<Option<usize>> {
     let n = refusal(line, true);
     if n != 0 {
-        return no_frame(out, number, n);
+        words::no_frame(out, number, n)?;
+        return Ok(None);
     }
     hex_bytes(line, bytes);
-    Ok(line.len() / 2)
-}
-
-fn both(out: &impl Print, a: &[u8; MOST], n: usize, b: &[u8; MOST], m: usize) -> io::Result<()> {
-    pair(out, part(a, 0, n), part(b, 0, m))
+    Ok(Some(line.len() / 2))
 }
 
 // The second of a pair is held against the first; a pair of which one is no frame is left out.
+fn second(
+    out: &impl Print,
+    number: u64,
+    line: &[u8],
+    a: &[u8; MOST],
+    first: Option<usize>,
+) -> io::Result<()> {
+    let mut b = [0u8; MOST];
+    let second = spelled(out, number, line, &mut b)?;
+    words::pair(out, number)?;
+    match (first, second) {
+        (Some(n), Some(m)) => pair(out, part(a, 0, n), part(&b, 0, m)),
+        _ => words::left_out(out),
+    }
+}
+
+// A line; what waits behind it.
 fn taken(
     out: &impl Print,
     number: u64,
     line: &[u8],
     a: &mut [u8; MOST],
-    waits: bool,
-    n: usize,
-) -> io::Result<usize> {
-    if !waits {
-        return spelled(out, number, line, a);
-    }
-    let mut b = [0u8; MOST];
-    let m = spelled(out, number, line, &mut b)?;
-    words::pair(out, number)?;
-    if n == 0 {
-        words::left_out(out)?;
-        return Ok(0);
-    }
-    if m == 0 {
-        words::left_out(out)?;
-        return Ok(0);
-    }
-    both(out, a, n, &b, m)?;
-    Ok(0)
+    first: Option<Option<usize>>,
+) -> io::Result<Option<Option<usize>>> {
+    let Some(before) = first else {
+        let n = spelled(out, number, line, a)?;
+        return Ok(Some(n));
+    };
+    second(out, number, line, a, before)?;
+    Ok(None)
 }
 
-fn next_number(n: u64) -> u64 {
-    if n == u64::MAX {
-        return n;
-    }
-    n + 1
-}
-
+// One line; none at the end, which is told.
 fn turn(
     input: &mut impl Read,
     out: &impl Print,
     buffer: &mut [u8; LINE],
     a: &mut [u8; MOST],
     h: Held,
-) -> io::Result<Held> {
-    let window = h.window;
-    match lines::next(input, buffer, window)? {
-        Line::Is(from, to, left) => {
-            let bytes = taken(out, h.number, part(buffer, from, to), a, h.waits, h.bytes)?;
-            Ok(Held {
-                window: left,
-                number: next_number(h.number),
-                waits: !h.waits,
-                bytes,
-                more: true,
-            })
-        }
-        Line::Ended => Ok(Held {
-            window,
-            number: h.number,
-            waits: h.waits,
-            bytes: h.bytes,
-            more: false,
-        }),
-        Line::TooLong => {
-            let bytes = no_frame(out, h.number, 22)?;
-            Ok(Held {
+) -> io::Result<Option<Held>> {
+    match lines::next(input, buffer, h.window)? {
+        Line::Is(from, to, window) => {
+            let first = taken(out, h.number, part(buffer, from, to), a, h.first)?;
+            Ok(Some(Held {
                 window,
-                number: h.number,
-                waits: true,
-                bytes,
-                more: false,
-            })
+                number: h.number.saturating_add(1),
+                first,
+            }))
+        }
+        Line::Ended => {
+            words::ended(out, h.number, h.first.is_some())?;
+            Ok(None)
+        }
+        Line::TooLong => {
+            words::no_frame(out, h.number, 22)?;
+            words::ended(out, h.number, true)?;
+            Ok(None)
         }
     }
 }
 
-// Nothing says that the input ends: the loop counts down from a number that no run uses up.
+// Nothing says that the input ends: the loop counts to a number that no run uses up.
 fn turns(
     input: &mut impl Read,
     out: &impl Print,
@@ -221,17 +187,13 @@ fn turns(
     let mut h = Held {
         window: lines::nothing_read(),
         number: 1,
-        waits: false,
-        bytes: 0,
-        more: true,
+        first: None,
     };
-    let mut left = u64::MAX;
-    while 0 < left {
-        h = turn(input, out, buffer, a, h)?;
-        if !h.more {
-            return words::ended(out, h.number, h.waits);
-        }
-        left -= 1;
+    for _ in 0..u64::MAX {
+        let Some(next) = turn(input, out, buffer, a, h)? else {
+            return Ok(());
+        };
+        h = next;
     }
     Ok(())
 }

@@ -22,12 +22,12 @@ pub fn pair(out: &impl Print, number: u64) -> io::Result<()> {
 pub fn answer(out: &impl Print, which: &[u8], v: Verdict) -> io::Result<()> {
     write::text(out, which)?;
     match v {
-        Verdict::Ok(greatest, past) => {
+        Ok(j) => {
             write::text(out, b"ok ")?;
-            write::decimal32(out, greatest)?;
-            write::spaced(out, past)
+            write::decimal32(out, j.greatest)?;
+            write::spaced(out, j.past)
         }
-        Verdict::No(n) => {
+        Err(n) => {
             write::text(out, b"no ")?;
             write::decimal32(out, n)
         }

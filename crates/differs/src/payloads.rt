@@ -1,16 +1,10 @@
 // Two payloads held against each other.
-ghost use Rattle.std.specs.Prelude.{◌≡◌, ◌*◌, ◌≤◌, min, length};
+ghost use Rattle.std.specs.Prelude.{◌≡◌, ◌*◌, ◌≤◌, length};
 ghost use Rattle.bins.specs.Bits.{bits};
 ghost use Rattle.differs.specs.Differ.{first_difference};
 
 use bins::places::BitPlace;
 use bits::fetch::draw;
-
-fn lesser(a: usize, b: usize) -> usize
-    ensures { result ≡ min a b }
-{
-    if a < b { a } else { b }
-}
 
 fn bit(bytes: &[u8], at: usize) -> u32
     requires { (at ≤ 8 * length bytes.now) × (length bytes.now ≤ 16777216) }
@@ -25,13 +19,11 @@ pub fn first_difference(a: &[u8], b: &[u8]) -> usize
     requires { (length a.now ≤ 16777216) × (length b.now ≤ 16777216) }
     ensures { result ≡ first_difference a.now b.now }
 {
-    let n = 8 * lesser(a.len(), b.len());
-    let mut i: usize = 0;
-    while i < n {
+    let n = 8 * a.len().min(b.len());
+    for i in 0..n {
         if bit(a, i) != bit(b, i) {
             return i;
         }
-        i += 1;
     }
-    i
+    n
 }

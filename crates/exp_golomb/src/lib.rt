@@ -18,14 +18,12 @@ pub fn eg_count(k: u32, v: u32, most: u32) -> u32
     requires { (k ≤ 22) × (most ≤ 31) }
     ensures { Prefixed k v most result }
 {
-    let mut n: u32 = 0;
-    while n < most {
+    for n in 0..most {
         if (v as u64) < whole_of(n + 1, k, 0) {
             return n;
         }
-        n += 1;
     }
-    n
+    most
 }
 
 // What v exceeds that many ones by.

@@ -9,7 +9,7 @@ pub struct Totals {
     pub past: u64, // the sum of their totals past the end
 }
 
-// What adding answers: 0 with the new totals, or the number of the refusal with the totals handed in.
+// What adding answers: 0 with the new totals, or the number of the refusal with the totals handed in. C has it so (include/bulmegart.h).
 #[repr(C)]
 #[derive(Clone, Copy)]
 pub struct Added {

@@ -1,6 +1,6 @@
 // Figures read out, place by place and number by number.
 
-// What stands at a place, or the number of the refusal with zeros.
+// What stands at a place, or the number of the refusal with zeros. C has it so, as the next (include/bulmegart.h).
 #[repr(C)]
 #[derive(Clone, Copy)]
 pub struct PlaceFigures {

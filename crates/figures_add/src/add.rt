@@ -14,7 +14,7 @@ use level_sizes::sizes::magnitude;
 fn one_if(m: u32) -> u32
     ensures { result ≡ min 1 m }
 {
-    if m == 0 { 0 } else { 1 }
+    m.min(1)
 }
 
 pub fn wide(x: u32) -> u64
@@ -26,27 +26,19 @@ pub fn wide(x: u32) -> u64
 pub fn larger(a: u32, b: u32) -> u32
     ensures { result ≡ max a b }
 {
-    if a < b { b } else { a }
+    a.max(b)
 }
 
 pub fn capped32(a: u32, b: u32) -> u32
     ensures { result ≡ min most32 (a + b) }
 {
-    if b <= 4294967295 - a {
-        a + b
-    } else {
-        4294967295
-    }
+    a.saturating_add(b)
 }
 
 pub fn capped64(a: u64, b: u64) -> u64
     ensures { result ≡ min most64 (a + b) }
 {
-    if b <= 18446744073709551615 - a {
-        a + b
-    } else {
-        18446744073709551615
-    }
+    a.saturating_add(b)
 }
 
 // A tally, one higher.
@@ -91,8 +83,7 @@ fn add_levels(
     requires { (n ≤ length levels.now) × (n ≤ 1024) }
     ensures { (blocks.new ≡ updated 0 n (λ place x. min most32 (x + nonzero (level_at levels.now place))) blocks.old) × (sums.new ≡ updated 0 n (λ place x. min most64 (x + nat_abs (level_at levels.now place))) sums.old) × (greatests.new ≡ updated 0 n (λ place x. max x (nat_abs (level_at levels.now place))) greatests.old) }
 {
-    let mut i: usize = 0;
-    while i < n {
+    for i in 0..n {
         let m = magnitude(levels[i]);
         let b = capped32(blocks[i], one_if(m));
         let s = capped64(sums[i], wide(m));
@@ -100,7 +91,6 @@ fn add_levels(
         blocks[i] = b;
         sums[i] = s;
         greatests[i] = g;
-        i += 1;
     }
 }
 

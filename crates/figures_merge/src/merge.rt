@@ -42,15 +42,13 @@ fn join_places(
     requires { n ≤ 1024 }
     ensures { (blocks.new ≡ updated 0 n (λ place x. min most32 (x + get_or b.now place 0)) blocks.old) × (sums.new ≡ updated 0 n (λ place x. min most64 (x + get_or s.now place 0)) sums.old) × (greatests.new ≡ updated 0 n (λ place x. max x (get_or g.now place 0)) greatests.old) }
 {
-    let mut i: usize = 0;
-    while i < n {
+    for i in 0..n {
         let x = capped32(blocks[i], b[i]);
         let y = capped64(sums[i], s[i]);
         let z = larger(greatests[i], g[i]);
         blocks[i] = x;
         sums[i] = y;
         greatests[i] = z;
-        i += 1;
     }
 }
 
@@ -58,20 +56,15 @@ fn join_places(
 fn tallied_both(t: u32, u: u32) -> u32
     ensures { result ≡ min 65535 (t + u) }
 {
-    if 65535 <= t {
-        return 65535;
-    }
-    if 65535 - t <= u { 65535 } else { t + u }
+    t.saturating_add(u).min(65535)
 }
 
 fn join_tallies(tallies: &mut [u32; 24], k: &[u32; 24])
     ensures { tallies.new ≡ updated 0 24 (λ i x. min 65535 (x + get_or k.now i 0)) tallies.old }
 {
-    let mut i: usize = 0;
-    while i < 24 {
+    for i in 0..24 {
         let t = tallied_both(tallies[i], k[i]);
         tallies[i] = t;
-        i += 1;
     }
 }
 

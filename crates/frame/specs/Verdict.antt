@@ -1,21 +1,26 @@
 -- The verdict on a frame (document 02, (viii)): the greatest magnitude and the bits past the end, or the lower crate's number; and the levels of its block.
-use Rattle.std.specs.Prelude.{ℕ, zero, suc, List, replicate, ℤ, pos}
+use Rattle.std.specs.Prelude.{ℕ, zero, suc, List, replicate, ℤ, pos, Ok, Err, Result}
 use Rattle.bins.specs.declared.state.Engine.{Engine}
 use Rattle.cabac.specs.Numbers.{Answer, accepted, refused, ◌or_else◌, payload_refusal}
 use Rattle.cabac.specs.Entries.{start}
 use Rattle.cabac.specs.Contexts.{initial_all}
 use Rattle.hevc_residual.specs.Numbers.{parameter_refusal}
 use Rattle.hevc_residual.specs.Entries.{FoundAt, PayloadRead, read_payload}
-use Rattle.frame.specs.declared.judge.Verdict.{Verdict}
-use Rattle.frame.specs.declared.judge.Verdict.TheVariants as ofVerdict
+use Rattle.frame.specs.declared.judge.Judged.{Judged}
 use Rattle.frame.specs.Frame.{values_of, payload_of, params_of, quantiser_of, flags_refusal}
+
+abbrev pub Verdict : Type 0
+Verdict = Result Judged ℕ
+
+abbrev pub ok : ℕ → ℕ → Verdict
+ok greatest past = Ok (record { greatest = greatest; past = past })
 
 abbrev pub no_levels : List ℤ
 no_levels = replicate 1024 (pos 0)
 
 unfoldable pub read_verdict : Answer FoundAt → Verdict
-read_verdict (accepted f) = ofVerdict.Ok f.found.greatest f.next.past
-read_verdict (refused n) = ofVerdict.No n
+read_verdict (accepted f) = ok f.found.greatest f.next.past
+read_verdict (refused n) = Err n
 
 -- the block from the state behind the start, with the frame's own contexts; statistics are 0
 abbrev pub read_from : List ℕ → Engine → PayloadRead
@@ -25,7 +30,7 @@ read_from bytes e =
 unfoldable pub started_verdict : List ℕ → Answer Engine → Verdict
 unfolding read_verdict params_of
 started_verdict bytes (accepted e) = read_verdict (read_from bytes e).answer
-started_verdict bytes (refused n) = ofVerdict.No n
+started_verdict bytes (refused n) = Err n
 
 -- a refused block's are 0
 unfoldable pub started_levels : List ℕ → Answer Engine → List ℤ
@@ -42,7 +47,7 @@ checks_of bytes = payload_refusal (payload_of bytes) or_else flags_refusal bytes
 unfoldable pub verdict_by : ℕ → List ℕ → Verdict
 unfolding started_verdict
 verdict_by zero bytes = started_verdict bytes (start (payload_of bytes))
-verdict_by (suc n) bytes = ofVerdict.No (suc n)
+verdict_by (suc n) bytes = Err (suc n)
 
 unfoldable pub levels_by : ℕ → List ℕ → List ℤ
 unfolding started_levels

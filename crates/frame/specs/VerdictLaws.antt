@@ -1,27 +1,21 @@
 -- Laws of verdicts, as the code meets them. Assumes nothing.
-use Rattle.std.specs.Prelude.{ℕ, zero, suc, ◌+◌, ◌-◌, ◌≤◌, ◌<◌, ◌≡◌, Bool, true, false, cond, ◌&&◌, List, [], ◌∷◌, ◌++◌, leb, eqb, length, take, drop, get_or, replicate, ℤ, pos}
+use Rattle.std.specs.Prelude.{ℕ, zero, suc, ◌+◌, ◌-◌, ◌≤◌, ◌<◌, ◌≡◌, Bool, true, false, cond, ◌&&◌, List, [], ◌∷◌, ◌++◌, leb, eqb, length, take, drop, get_or, replicate, ℤ, pos, Result, Ok, Err}
 use Rattle.std.proofs.Common.{arith, sym, subst, ◌∙◌, length-take, length-drop, take_all, le-leb, eq-eqb}
 use Rattle.std.proofs.Math.Path.{refl, ap}
 use Rattle.std.proofs.lemmas.Bool.{lt-leb}
 use Rattle.bins.specs.declared.state.Engine.{Engine}
 use Rattle.bins.specs.Tags.{context_count}
 use Rattle.cabac.specs.Numbers.{Answer, accepted, refused, ◌or_else◌, payload_refusal}
-use Rattle.cabac.specs.declared.answers.State.{State}
-use Rattle.cabac.specs.declared.answers.State.TheVariants as ofState
 use Rattle.cabac.specs.Entries.{start, state_says, values_refusal, contexts_after, statistics_after}
 use Rattle.cabac.specs.Contexts.{initial_all}
 use Rattle.hevc_residual.specs.declared.params.Params.{Params}
 use Rattle.hevc_residual.specs.Numbers.{parameter_refusal}
 use Rattle.hevc_residual.specs.Entries.{FoundAt, PayloadRead, read_payload}
 use Rattle.hevc_residual.specs.AllOff.{all_off}
-use Rattle.hevc_residual.specs.declared.answers.Found.{Found}
-use Rattle.hevc_residual.specs.declared.answers.Read.{Read}
-use Rattle.hevc_residual.specs.declared.answers.Read.TheVariants as ofRead
+use Rattle.hevc_residual.specs.declared.answers.ReadBlock.{ReadBlock}
 use Rattle.hevc_residual.specs.Answers.{payload_read}
-use Rattle.frame.specs.declared.judge.Verdict.{Verdict}
-use Rattle.frame.specs.declared.judge.Verdict.TheVariants as ofVerdict
 use Rattle.frame.specs.Frame.{payload_of, values_of, byte_of, quantiser_of, params_of, flags_refusal}
-use Rattle.frame.specs.Verdict.{no_levels, checks_of, read_verdict, read_from, started_verdict, verdict_by, verdict, started_levels, levels_by, levels_of}
+use Rattle.frame.specs.Verdict.{no_levels, checks_of, read_verdict, read_from, started_verdict, verdict_by, verdict, started_levels, levels_by, levels_of, Verdict, ok}
 
 -- ---- a frame's parts
 pub tail_is : (bytes : List ℕ) → take (length bytes - 138) (drop 138 bytes) ≡ payload_of bytes
@@ -78,7 +72,7 @@ module _ (bytes : List ℕ) (a : ℕ) (p : a ≡ payload_refusal (payload_of byt
       ∙ or_second (payload_refusal (payload_of bytes)) (flags_refusal bytes or_else parameter_refusal (params_of bytes) no_levels) (sym p ∙ z)
 
 -- ---- the verdict
-no_is : (m : ℕ) (bytes : List ℕ) → (m ≡ 0 → ⊥) → ofVerdict.No m ≡ verdict_by m bytes
+no_is : (m : ℕ) (bytes : List ℕ) → (m ≡ 0 → ⊥) → Err m ≡ verdict_by m bytes
 unfolding verdict_by
 no_is zero bytes h = absurd (h refl)
 no_is (suc m) bytes h = refl
@@ -89,7 +83,7 @@ none_by zero bytes h = absurd (h refl)
 none_by (suc m) bytes h = refl
 
 module _ (bytes : List ℕ) (n : ℕ) (e : n ≡ checks_of bytes) where
-  pub verdict_checks : (n ≡ 0 → ⊥) → ofVerdict.No n ≡ verdict bytes
+  pub verdict_checks : (n ≡ 0 → ⊥) → Err n ≡ verdict bytes
   unfolding verdict
   verdict_checks h = no_is n bytes h ∙ ap (λ (x : ℕ). verdict_by x bytes) e
 
@@ -101,12 +95,12 @@ module _ (bytes : List ℕ) (n : ℕ) (e : n ≡ checks_of bytes) where
   unfolding levels_of levels_by
   levels_behind z = ap (λ (x : ℕ). levels_by x bytes) (sym z ∙ e)
 
-  pub levels_ready : (s : State) (x : Engine) (b : List ℤ) → n ≡ 0 → state_says s ≡ start (payload_of bytes) → s ≡ ofState.Ready x → b ≡ started_levels bytes (accepted x)
+  pub levels_ready : (s : Result Engine ℕ) (x : Engine) (b : List ℤ) → n ≡ 0 → state_says s ≡ start (payload_of bytes) → s ≡ Ok x → b ≡ started_levels bytes (accepted x)
       → b ≡ levels_of bytes
   levels_ready s x b z q r w =
       w ∙ ap (started_levels bytes) (ap state_says (sym r) ∙ q) ∙ levels_behind z
 
-  pub levels_refused : (s : State) (m : ℕ) → n ≡ 0 → state_says s ≡ start (payload_of bytes) → s ≡ ofState.Refused m → no_levels ≡ levels_of bytes
+  pub levels_refused : (s : Result Engine ℕ) (m : ℕ) → n ≡ 0 → state_says s ≡ start (payload_of bytes) → s ≡ Err m → no_levels ≡ levels_of bytes
   unfolding started_levels
   levels_refused s m z q r = ap (started_levels bytes) (ap state_says (sym r) ∙ q) ∙ levels_behind z
 
@@ -114,12 +108,12 @@ module _ (bytes : List ℕ) (n : ℕ) (e : n ≡ checks_of bytes) where
   unfolding verdict verdict_by
   verdict_behind z = ap (λ (x : ℕ). verdict_by x bytes) (sym z ∙ e)
 
-  pub verdict_ready : (s : State) (x : Engine) (v : Verdict) → n ≡ 0 → state_says s ≡ start (payload_of bytes) → s ≡ ofState.Ready x → v ≡ started_verdict bytes (accepted x)
+  pub verdict_ready : (s : Result Engine ℕ) (x : Engine) (v : Verdict) → n ≡ 0 → state_says s ≡ start (payload_of bytes) → s ≡ Ok x → v ≡ started_verdict bytes (accepted x)
       → v ≡ verdict bytes
   verdict_ready s x v z q r w =
       w ∙ ap (started_verdict bytes) (ap state_says (sym r) ∙ q) ∙ verdict_behind z
 
-  pub verdict_refused : (s : State) (m : ℕ) → n ≡ 0 → state_says s ≡ start (payload_of bytes) → s ≡ ofState.Refused m → ofVerdict.No m ≡ verdict bytes
+  pub verdict_refused : (s : Result Engine ℕ) (m : ℕ) → n ≡ 0 → state_says s ≡ start (payload_of bytes) → s ≡ Err m → Err m ≡ verdict bytes
   unfolding started_verdict
   verdict_refused s m z q r = ap (started_verdict bytes) (ap state_says (sym r) ∙ q) ∙ verdict_behind z
 
@@ -143,7 +137,7 @@ module _ (bytes cs ss cs' ss' cs'' ss'' : List ℕ) (b'' : List ℤ) (n : ℕ) (
   zero_is : n ≡ 0
   zero_is = i ∙ values_all bytes h
 
-  handed : (r : Read) → payload_read r cs'' ss'' b'' ≡ read_payload P e cs' ss' p b → payload_read r cs'' ss'' b'' ≡ read_from bytes e
+  handed : (r : Result ReadBlock ℕ) → payload_read r cs'' ss'' b'' ≡ read_payload P e cs' ss' p b → payload_read r cs'' ss'' b'' ≡ read_from bytes e
   handed r q =
       q
       ∙ ap (λ (x : List ℤ). read_payload P e cs' ss' p x) v
@@ -152,25 +146,25 @@ module _ (bytes cs ss cs' ss' cs'' ss'' : List ℕ) (b'' : List ℤ) (n : ℕ) (
       ∙ ap (λ (x : List ℕ). read_payload (payload_of bytes) e (initial_all (quantiser_of bytes) (values_of bytes)) x p no_levels) (k ∙ statistics_zero n ss zero_is)
       ∙ ap (λ (x : Params). read_payload (payload_of bytes) e (initial_all (quantiser_of bytes) (values_of bytes)) (replicate 4 0) x no_levels) g
 
-  says : (r : Read) → payload_read r cs'' ss'' b'' ≡ read_payload P e cs' ss' p b
+  says : (r : Result ReadBlock ℕ) → payload_read r cs'' ss'' b'' ≡ read_payload P e cs' ss' p b
       → read_verdict (payload_read r cs'' ss'' b'').answer ≡ started_verdict bytes (accepted e)
   unfolding started_verdict
   says r q = ap (λ (x : PayloadRead). read_verdict x.answer) (handed r q)
 
-  leaves : (r : Read) → payload_read r cs'' ss'' b'' ≡ read_payload P e cs' ss' p b → b'' ≡ started_levels bytes (accepted e)
+  leaves : (r : Result ReadBlock ℕ) → payload_read r cs'' ss'' b'' ≡ read_payload P e cs' ss' p b → b'' ≡ started_levels bytes (accepted e)
   unfolding started_levels
   leaves r q = block_of r ∙ ap (λ (x : PayloadRead). x.block) (handed r q)
     where
-      block_of : (r : Read) → b'' ≡ (payload_read r cs'' ss'' b'').block
-      block_of (ofRead.Block f x) = refl
-      block_of (ofRead.Refused n) = refl
+      block_of : (r : Result ReadBlock ℕ) → b'' ≡ (payload_read r cs'' ss'' b'').block
+      block_of (Ok f) = refl
+      block_of (Err n) = refl
 
-  pub read_ok : (r : Read) (f : Found) (x : Engine) → payload_read r cs'' ss'' b'' ≡ read_payload P e cs' ss' p b
-      → r ≡ ofRead.Block f x → (ofVerdict.Ok f.greatest x.past ≡ started_verdict bytes (accepted e)) × (b'' ≡ started_levels bytes (accepted e))
+  pub read_ok : (r : Result ReadBlock ℕ) (f : ReadBlock) → payload_read r cs'' ss'' b'' ≡ read_payload P e cs' ss' p b
+      → r ≡ Ok f → (ok f.found.greatest f.state.past ≡ started_verdict bytes (accepted e)) × (b'' ≡ started_levels bytes (accepted e))
   unfolding read_verdict
-  read_ok r f x q u = (ap (λ (z : Read). read_verdict (payload_read z cs'' ss'' b'').answer) (sym u) ∙ says r q, leaves r q)
+  read_ok r f q u = (ap (λ (z : Result ReadBlock ℕ). read_verdict (payload_read z cs'' ss'' b'').answer) (sym u) ∙ says r q, leaves r q)
 
-  pub read_no : (r : Read) (m : ℕ) → payload_read r cs'' ss'' b'' ≡ read_payload P e cs' ss' p b
-      → r ≡ ofRead.Refused m → (ofVerdict.No m ≡ started_verdict bytes (accepted e)) × (b'' ≡ started_levels bytes (accepted e))
+  pub read_no : (r : Result ReadBlock ℕ) (m : ℕ) → payload_read r cs'' ss'' b'' ≡ read_payload P e cs' ss' p b
+      → r ≡ Err m → (Err m ≡ started_verdict bytes (accepted e)) × (b'' ≡ started_levels bytes (accepted e))
   unfolding read_verdict
-  read_no r m q u = (ap (λ (z : Read). read_verdict (payload_read z cs'' ss'' b'').answer) (sym u) ∙ says r q, leaves r q)
+  read_no r m q u = (ap (λ (z : Result ReadBlock ℕ). read_verdict (payload_read z cs'' ss'' b'').answer) (sym u) ∙ says r q, leaves r q)

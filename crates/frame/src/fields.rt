@@ -5,21 +5,15 @@ ghost use Rattle.frame.specs.Frame.{params_of, flags_refusal};
 
 use hevc_residual::params::{Params, all_off};
 
-fn number(byte: u8) -> u32
-    ensures { result ≡ byte }
-{
-    byte as u32
-}
-
 // The header's parameters; other options are off.
 pub fn params(bytes: &[u8]) -> Params
     requires { 6 ≤ length bytes.now }
     ensures { result ≡ params_of bytes.now }
 {
-    let log2 = number(bytes[0]);
+    let log2 = bytes[0] as u32;
     let luma = bytes[1] == 1;
-    let scan = number(bytes[2]);
-    let depth = number(bytes[3]);
+    let scan = bytes[2] as u32;
+    let depth = bytes[3] as u32;
     let hiding = bytes[5] == 1;
     all_off(log2, luma, scan, depth, hiding)
 }

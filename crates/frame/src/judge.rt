@@ -6,12 +6,15 @@ use crate::fields::{flags_refusal, params};
 use cabac_checks::checks::payload_refusal;
 use hevc_checks::checks::parameter_refusal;
 
-// The greatest magnitude and the bits past the end, or the number of the refusal.
+// Of a frame's block: its greatest magnitude and the bits past the end.
 #[derive(Clone, Copy)]
-pub enum Verdict {
-    Ok(u32, u32),
-    No(u32),
+pub struct Judged {
+    pub greatest: u32,
+    pub past: u32,
 }
+
+// Those, or the number of the refusal.
+pub type Verdict = Result<Judged, u32>;
 
 // 1, 4
 pub fn checks(bytes: &[u8]) -> u32

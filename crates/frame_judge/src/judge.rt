@@ -5,13 +5,11 @@ ghost use Rattle.frame.specs.Verdict.{no_levels, started_verdict, started_levels
 
 use bins::state::Engine;
 use bins::tags::CONTEXTS;
-use cabac::answers::State;
 use cabac_engine::engine::start;
 use cabac_init::contexts::init_contexts;
 use frame::fields::params;
-use frame::judge::{Verdict, checks};
+use frame::judge::{Judged, Verdict, checks};
 use hevc_reader::entries::residual_coding;
-use hevc_residual::answers::Read;
 
 // The block, from the state behind the start. Contexts and statistics are the frame's own.
 fn read_from(bytes: &[u8], e: Engine, block: &mut [i32; 1024]) -> Verdict
@@ -24,8 +22,11 @@ fn read_from(bytes: &[u8], e: Engine, block: &mut [i32; 1024]) -> Verdict
     init_contexts(&mut contexts, &mut stats, &bytes[8..138], bytes[4]);
     let r = residual_coding(&bytes[138..], e, &mut contexts, &mut stats, p, block);
     match r {
-        Read::Block(found, next) => Verdict::Ok(found.greatest, next.past),
-        Read::Refused(n) => Verdict::No(n),
+        Ok(b) => Ok(Judged {
+            greatest: b.found.greatest,
+            past: b.state.past,
+        }),
+        Err(n) => Err(n),
     }
 }
 
@@ -37,12 +38,12 @@ pub fn read_frame(bytes: &[u8], block: &mut [i32; 1024]) -> Verdict
     *block = [0i32; 1024];
     let n = checks(bytes);
     if n != 0 {
-        return Verdict::No(n);
+        return Err(n);
     }
     let s = start(&bytes[138..]);
     match s {
-        State::Ready(e) => read_from(bytes, e, block),
-        State::Refused(m) => Verdict::No(m),
+        Ok(e) => read_from(bytes, e, block),
+        Err(m) => Err(m),
     }
 }
 

@@ -6,6 +6,7 @@ use Rattle.std.proofs.Math.Bool.{true, false}
 use mathlib.Core.List.{List, [], ◌∷◌}
 use Rattle.std.proofs.Math.ListN.{drop, drop_of_length-le}
 use Rattle.std.proofs.Math.Dec.{eqb}
+use Rattle.std.specs.List.{list_all}
 use Rattle.std.specs.Int.Signed.{lt_z, le_z, non_neg}
 use Rattle.std.specs.Int.{w32}
 use Rattle.std.proofs.lemmas.Bool.{lt-leb, eqb-false}
@@ -82,6 +83,11 @@ within_out v l q = rw q refl
 -- the code reads a number at 32 bits
 pub within_back : (z : ℤ) → SFits w32 z → (d : Bool) → d ≡ within (to_z w32 (of_z w32 z)) → within z ≡ d
 within_back z f d q = sym (q ∙ ap within (to_z-of_z f))
+
+pub all_is : (l : List ℤ) → list_all within l ≡ all_within l
+unfolding all_within
+all_is [] = refl
+all_is (v ∷ l) = ap (λ (d : Bool). within v && d) (all_is l)
 
 module _ (l : List ℤ) where
   pub within_on : (i : ℕ) → i < length l → within (get_or l i (pos 0)) ≡ true → all_within (drop i l) ≡ all_within l → all_within (drop (i + 1) l) ≡ all_within l

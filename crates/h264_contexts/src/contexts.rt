@@ -42,17 +42,10 @@ fn init(m: i32, n: i32, q: u8) -> u8
 fn pairs_refusal(pairs: &[i32]) -> u32
     ensures { result ≡ pairs_refusal pairs.now }
 {
-    if pairs.len() != 80 {
-        return 4;
+    if pairs.len() == 80 && pairs.iter().all(|v| is_within(*v)) {
+        return 0;
     }
-    let mut i: usize = 0;
-    while i < 80 {
-        if !is_within(pairs[i]) {
-            return 4;
-        }
-        i += 1;
-    }
-    0
+    4
 }
 
 // The lent contexts from the lent pairs, which stand one after the other, m before n.
@@ -63,12 +56,8 @@ pub fn init_pairs(contexts: &mut [u8; 40], pairs: &[i32], q: u8) -> u32
     if refused != 0 {
         return refused;
     }
-    let mut fresh = [0u8; 40];
-    let mut i: usize = 0;
-    while i < 40 {
-        fresh[i] = init(pairs[2 * i], pairs[2 * i + 1], q);
-        i += 1;
+    for (i, context) in contexts.iter_mut().enumerate() {
+        *context = init(pairs[2 * i], pairs[2 * i + 1], q);
     }
-    *contexts = fresh;
     0
 }

@@ -1,5 +1,5 @@
 -- Worked frames: one table, and one statement about the definitions.
-use Rattle.std.specs.Prelude.{ℕ, zero, suc, ◌≡◌, refl, Bool, true, false, ◌&&◌, List, [], ◌∷◌, ◌++◌, eqb, set, ℤ, pos, negsuc}
+use Rattle.std.specs.Prelude.{ℕ, zero, suc, ◌≡◌, refl, Bool, true, false, ◌&&◌, List, [], ◌∷◌, ◌++◌, eqb, set, ℤ, pos, negsuc, Some, None, Ok, Err}
 use Rattle.std.specs.Int.Count.{count_leading_zeros}
 use Rattle.tables.specs.Tables.{range_tab_lps, trans_idx_mps, trans_idx_lps, lps_of, on_mps, on_lps}
 use Rattle.bins.specs.Bits.{bits}
@@ -16,9 +16,7 @@ use Rattle.h264_block.specs.Block.{block, places_s, magnitude_s, levels_s}
 use Rattle.h264_block.specs.Contexts.{raised, pre_raised, initial, initial_all}
 use Rattle.h264_block.specs.Entries.{block_refusal, read_by_engine, read_payload_by, read_payload}
 use Rattle.h264_block.specs.Cases.{sameℤ, same_list}
-use Rattle.h264_frame.specs.declared.Shown.{Shown}
-use Rattle.h264_frame.specs.declared.Shown.TheVariants as ofShown
-use Rattle.h264_frame.specs.Frame.{formed, byte_signed, pairs_of, no_levels, read_shown, started_shown, started_levels, shown, levels_of}
+use Rattle.h264_frame.specs.Frame.{formed, byte_signed, pairs_of, no_levels, Shown, read_of, started_read, started_levels, shown, levels_of}
 
 -- a pair so many times, as bytes
 pairs : ℕ → ℕ → ℕ → List ℕ
@@ -36,9 +34,9 @@ pub record Case : Type 0 where
   pub levels : List ℤ
 
 unfoldable pub told : Shown → List ℕ
-told (ofShown.Block g e) = 0 ∷ g ∷ e.position.0 ∷ e.past ∷ []
-told (ofShown.Refused n) = n ∷ []
-told ofShown.NoFrame = []
+told (Some (Ok f)) = 0 ∷ f.greatest ∷ f.next.position.0 ∷ f.next.past ∷ []
+told (Some (Err n)) = n ∷ []
+told None = []
 
 same : List ℕ → List ℕ → Bool
 same [] [] = true
@@ -65,7 +63,7 @@ all_pass (c ∷ cs) = same (told (shown c.bytes)) c.says && same_list (levels_of
 
 -- the statement
 pub cases_pass : all_pass table ≡ true
-unfolding all_pass table told sameℤ same_list bits range_tab_lps trans_idx_mps trans_idx_lps lps_of on_mps on_lps fetched started split_by split decided bypassed raised pre_raised initial initial_all count_leading_zeros ◌>>=◌ run by_engine bits_s ones_s ◌or_else◌ unless payload_refusal possible state_refusal context_refusal offset_refusal ended_refusal start block places_s magnitude_s levels_s at_magnitude count_s golomb_s down_from greatest_of block_refusal contexts_refusal read_by_engine read_payload_by read_payload formed byte_signed pairs_of read_shown started_shown started_levels shown levels_of
+unfolding all_pass table told sameℤ same_list bits range_tab_lps trans_idx_mps trans_idx_lps lps_of on_mps on_lps fetched started split_by split decided bypassed raised pre_raised initial initial_all count_leading_zeros ◌>>=◌ run by_engine bits_s ones_s ◌or_else◌ unless payload_refusal possible state_refusal context_refusal offset_refusal ended_refusal start block places_s magnitude_s levels_s at_magnitude count_s golomb_s down_from greatest_of block_refusal contexts_refusal read_by_engine read_payload_by read_payload formed byte_signed pairs_of read_of started_read started_levels shown levels_of
 cases_pass = refl
 
 -- a byte as two's complement has it

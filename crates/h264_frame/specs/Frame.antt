@@ -1,13 +1,12 @@
 -- One block of H.264 as a frame, and what is shown of it: every list of bytes has an answer.
-use Rattle.std.specs.Prelude.{ℕ, ◌+◌, ◌-◌, ◌*◌, Bool, true, false, cond, ◌&&◌, List, [], ◌∷◌, map, leb, ltb, eqb, length, take, drop, get_or, replicate, ℤ, pos}
+use Rattle.std.specs.Prelude.{ℕ, ◌+◌, ◌-◌, ◌*◌, Bool, true, false, cond, ◌&&◌, List, [], ◌∷◌, map, leb, ltb, eqb, length, take, drop, get_or, replicate, ℤ, pos, Option, Some, None, Err}
 use Rattle.bins.specs.declared.state.Engine.{Engine}
 use Rattle.cabac.specs.Numbers.{Answer, accepted, refused}
 use Rattle.cabac.specs.Entries.{start}
 use Rattle.trees.specs.Levels.{signed}
 use Rattle.h264_block.specs.Contexts.{initial_all}
 use Rattle.h264_block.specs.Entries.{FoundAt, PayloadRead, read_payload}
-use Rattle.h264_frame.specs.declared.Shown.{Shown}
-use Rattle.h264_frame.specs.declared.Shown.TheVariants as ofShown
+use Rattle.h264_reader.specs.EntriesAgree.{Read, found}
 
 -- ---- a frame: QP, the payload's length in two bytes, 40 pairs m, n, the payload
 abbrev pub front_bytes : ℕ
@@ -35,18 +34,21 @@ payload_of bytes = drop front_bytes bytes
 abbrev pub no_levels : List ℤ
 no_levels = replicate 16 (pos 0)
 
-unfoldable pub read_shown : Answer FoundAt → Shown
-read_shown (accepted f) = ofShown.Block f.greatest f.next
-read_shown (refused n) = ofShown.Refused n
+abbrev pub Shown : Type 0
+Shown = Option Read
+
+unfoldable pub read_of : Answer FoundAt → Read
+read_of (accepted f) = found f.greatest f.next
+read_of (refused n) = Err n
 
 -- the block from the state behind the start, with the frame's own contexts
 abbrev pub read_from : List ℕ → Engine → PayloadRead
 read_from bytes e = read_payload (payload_of bytes) e (initial_all (byte_of bytes 0) (pairs_of bytes)) no_levels
 
-unfoldable pub started_shown : List ℕ → Answer Engine → Shown
-unfolding read_shown pairs_of
-started_shown bytes (accepted e) = read_shown (read_from bytes e).answer
-started_shown bytes (refused n) = ofShown.Refused n
+unfoldable pub started_read : List ℕ → Answer Engine → Read
+unfolding read_of pairs_of
+started_read bytes (accepted e) = read_of (read_from bytes e).answer
+started_read bytes (refused n) = Err n
 
 -- a refused block's are 0
 unfoldable pub started_levels : List ℕ → Answer Engine → List ℤ
@@ -56,8 +58,8 @@ started_levels bytes (refused n) = no_levels
 
 -- THE answer: 1 and 5 of the start, then the reader's own
 unfoldable pub shown : List ℕ → Shown
-unfolding formed started_shown
-shown bytes = cond (formed bytes) (started_shown bytes (start (payload_of bytes))) ofShown.NoFrame
+unfolding formed started_read
+shown bytes = cond (formed bytes) (Some (started_read bytes (start (payload_of bytes)))) None
 
 -- and THE levels by list place
 unfoldable pub levels_of : List ℕ → List ℤ

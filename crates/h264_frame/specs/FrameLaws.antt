@@ -1,31 +1,25 @@
 -- Laws of a frame of H.264, as the code meets them. Assumes nothing.
 use Prim.Native.Nat.{ℕ, zero, suc, ◌+◌, ◌-◌, ◌*◌, ◌≤◌, ◌<◌}
 use Rattle.std.proofs.Common.{arith, subst, ◌∙◌, length-set, take_all, get_or-take, get_or-set_same, get_or-set_other, to_z, of_z, le-leb, lt-ltb, le-ltb, leb-true, ltb-true, ltb-false, eqb-true}
-use Rattle.std.specs.Prelude.{◌≡◌, Bool, true, false, cond, ◌&&◌, leb, ltb, eqb, drop, set, ℤ, pos, ◌-ℤ◌}
+use Rattle.std.specs.Prelude.{◌≡◌, Bool, true, false, cond, ◌&&◌, leb, ltb, eqb, drop, set, ℤ, pos, ◌-ℤ◌, Result, Ok, Err, Some, None}
 use Rattle.std.proofs.Math.Path.{refl, sym, ap}
 use mathlib.Core.List.{List, [], ◌∷◌, map}
 use Rattle.std.proofs.Math.ListN.{length, take, get_or, length-take, length-drop, get_or-map}
 use Rattle.std.proofs.lemmas.List.{length-map}
 use Rattle.trees.specs.Levels.{signed}
 use Rattle.std.proofs.Math.Seq.{ext_get_or, get_or-drop}
-use Rattle.std.specs.Int.{w32}
+use Rattle.std.specs.Int.{w8, w32}
 use Rattle.std.proofs.lemmas.Bool.{lt-leb, eqb-false}
 use Rattle.tables.specs.Table.{le_below}
 use Rattle.bins.specs.declared.state.Engine.{Engine}
-use Rattle.cabac.specs.Numbers.{accepted, refused}
-use Rattle.cabac.specs.declared.answers.State.{State}
-use Rattle.cabac.specs.declared.answers.State.TheVariants as ofState
+use Rattle.cabac.specs.Numbers.{accepted, refused, Answer}
 use Rattle.cabac.specs.Entries.{start, state_says}
 use Rattle.level_sizes.specs.SignLaws.{minus_is, plus_is}
 use Rattle.h264_block.specs.Contexts.{within, initial_all, all_within, pairs_refusal, contexts_after}
 use Rattle.h264_contexts.specs.PairLaws.{pairs_fine}
 use Rattle.h264_block.specs.Entries.{PayloadRead, read_payload}
-use Rattle.h264_reader.specs.declared.entries.Read.{Read}
-use Rattle.h264_reader.specs.declared.entries.Read.TheVariants as ofRead
-use Rattle.h264_reader.specs.EntriesAgree.{payload_read}
-use Rattle.h264_frame.specs.declared.Shown.{Shown}
-use Rattle.h264_frame.specs.declared.Shown.TheVariants as ofShown
-use Rattle.h264_frame.specs.Frame.{payload_of, byte_of, formed, byte_signed, pairs_of, no_levels, read_shown, read_from, started_shown, started_levels, shown, levels_of, zigzag}
+use Rattle.h264_reader.specs.EntriesAgree.{Read, payload_read}
+use Rattle.h264_frame.specs.Frame.{payload_of, byte_of, formed, byte_signed, pairs_of, no_levels, Shown, read_of, read_from, started_read, started_levels, shown, levels_of, zigzag}
 
 -- ---- the form
 pub tail_is : (bytes : List ℕ) → take (length bytes - 83) (drop 83 bytes) ≡ payload_of bytes
@@ -55,6 +49,14 @@ byte_plus b h = rw (lt-ltb b 128 h) (plus_is false b refl (omega arith))
 pub byte_minus : (b : ℕ) → 128 ≤ b → to_z w32 (of_z w32 (pos 0 -ℤ to_z w32 (256 - b))) ≡ byte_signed b
 unfolding byte_signed
 byte_minus b h = rw (le-ltb b 128 h) (minus_is true (256 - b) refl (omega arith))
+
+pub byte_is : (b : ℕ) → b < 256 → to_z w8 b ≡ byte_signed b
+unfolding byte_signed
+byte_is b h = go (ltb b 128) refl
+  where
+    go : (d : Bool) → ltb b 128 ≡ d → to_z w8 b ≡ cond d (signed false b) (signed true (256 - b))
+    go true e = rw e refl
+    go false e = let k : 256 - b ≡ suc (256 - suc b) = omega (arith, ltb-false b 128 e) in rw (e, k) refl
 
 -- ---- the pairs: those of the first i bytes are there
 pub record Paired (bytes : List ℕ) (i : ℕ) (out : List ℤ) : Type 0 where
@@ -130,47 +132,45 @@ module _ (bytes cs cs' cs'' : List ℕ) (b'' ps : List ℤ) (n : ℕ) (e : Engin
       ∙ ap (λ (x : List ℕ). read_payload x e cs' no_levels) w
       ∙ ap (λ (x : List ℕ). read_payload (payload_of bytes) e x no_levels) (j ∙ contexts_zero n cs ps (byte_of bytes 0) zero_is ∙ ap (initial_all (byte_of bytes 0)) g)
 
-  says : (r : Read) → payload_read r cs'' b'' ≡ read_payload P e cs' b → read_shown (payload_read r cs'' b'').answer ≡ started_shown bytes (accepted e)
-  unfolding started_shown
-  says r q = ap (λ (x : PayloadRead). read_shown x.answer) (handed r q)
+  says : (r : Read) → payload_read r cs'' b'' ≡ read_payload P e cs' b → read_of (payload_read r cs'' b'').answer ≡ started_read bytes (accepted e)
+  unfolding started_read
+  says r q = ap (λ (x : PayloadRead). read_of x.answer) (handed r q)
 
   leaves : (r : Read) → payload_read r cs'' b'' ≡ read_payload P e cs' b → b'' ≡ started_levels bytes (accepted e)
   unfolding started_levels
   leaves r q = block_of r ∙ ap (λ (x : PayloadRead). x.block) (handed r q)
     where
       block_of : (r : Read) → b'' ≡ (payload_read r cs'' b'').block
-      block_of (ofRead.Block f x) = refl
-      block_of (ofRead.Refused n) = refl
+      block_of (Ok f) = refl
+      block_of (Err n) = refl
 
-  pub read_ok : (r : Read) (m : ℕ) (x : Engine) → payload_read r cs'' b'' ≡ read_payload P e cs' b
-      → r ≡ ofRead.Block m x → (ofShown.Block m x ≡ started_shown bytes (accepted e)) × (b'' ≡ started_levels bytes (accepted e))
-  unfolding read_shown
-  read_ok r m x q u = (ap (λ (z : Read). read_shown (payload_read z cs'' b'').answer) (sym u) ∙ says r q, leaves r q)
-
-  pub read_no : (r : Read) (m : ℕ) → payload_read r cs'' b'' ≡ read_payload P e cs' b
-      → r ≡ ofRead.Refused m → (ofShown.Refused m ≡ started_shown bytes (accepted e)) × (b'' ≡ started_levels bytes (accepted e))
-  unfolding read_shown
-  read_no r m q u = (ap (λ (z : Read). read_shown (payload_read z cs'' b'').answer) (sym u) ∙ says r q, leaves r q)
+  pub read_is : (r : Read) → payload_read r cs'' b'' ≡ read_payload P e cs' b → (r ≡ started_read bytes (accepted e)) × (b'' ≡ started_levels bytes (accepted e))
+  unfolding read_of
+  read_is r q = (as_read r ∙ says r q, leaves r q)
+    where
+      as_read : (r : Read) → r ≡ read_of (payload_read r cs'' b'').answer
+      as_read (Ok f) = refl
+      as_read (Err n) = refl
 
 -- ---- the answer
 module _ (bytes : List ℕ) where
-  pub no_frame : false ≡ formed bytes → (ofShown.NoFrame ≡ shown bytes) × (no_levels ≡ levels_of bytes)
+  pub no_frame : false ≡ formed bytes → (None ≡ shown bytes) × (no_levels ≡ levels_of bytes)
   unfolding shown levels_of
   no_frame q = (rw (sym q), rw (sym q))
 
-  module _ (q : true ≡ formed bytes) (s : State) (t : state_says s ≡ start (payload_of bytes)) where
-    pub frame_ready : (e : Engine) (v : Shown) (b : List ℤ) → s ≡ ofState.Ready e → v ≡ started_shown bytes (accepted e) → b ≡ started_levels bytes (accepted e)
-        → (v ≡ shown bytes) × (b ≡ levels_of bytes)
+  module _ (q : true ≡ formed bytes) (s : Result Engine ℕ) (t : state_says s ≡ start (payload_of bytes)) where
+    pub frame_ready : (e : Engine) (v : Read) (b : List ℤ) → s ≡ Ok e → v ≡ started_read bytes (accepted e) → b ≡ started_levels bytes (accepted e)
+        → (Some v ≡ shown bytes) × (b ≡ levels_of bytes)
     unfolding shown levels_of
     frame_ready e v b r x y =
         let a : accepted e ≡ start (payload_of bytes) = ap state_says (sym r) ∙ t in
-        (rw (sym q) (x ∙ ap (started_shown bytes) a), rw (sym q) (y ∙ ap (started_levels bytes) a))
+        (rw (sym q) (ap Some (x ∙ ap (started_read bytes) a)), rw (sym q) (y ∙ ap (started_levels bytes) a))
 
-    pub frame_refused : (n : ℕ) → s ≡ ofState.Refused n → (ofShown.Refused n ≡ shown bytes) × (no_levels ≡ levels_of bytes)
-    unfolding shown levels_of started_shown started_levels
+    pub frame_refused : (n : ℕ) → s ≡ Err n → ◌≡◌ {A = Shown} (Some (Err n)) (shown bytes) × (no_levels ≡ levels_of bytes)
+    unfolding shown levels_of started_read started_levels
     frame_refused n r =
         let a : refused n ≡ start (payload_of bytes) = ap state_says (sym r) ∙ t in
-        (rw (sym q) (ap (started_shown bytes) a), rw (sym q) (ap (started_levels bytes) a))
+        (rw (sym q) (ap (λ (x : Answer Engine). Some (started_read bytes x)) a), rw (sym q) (ap (started_levels bytes) a))
 
 -- ---- the zig-zag scan
 pub zigzag_few : (k : ℕ) → k < 16 → get_or zigzag k 0 ≤ 15

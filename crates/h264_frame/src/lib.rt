@@ -1,35 +1,26 @@
 // One block of H.264 as a frame: QP, the payload's length in two bytes, high first, 40 pairs m, n as signed bytes, the payload.
 #![tactic(auto)]
 
-ghost use Rattle.std.specs.Prelude.{◌≡◌, true, ◌+◌, ◌*◌, ◌≤◌, ◌<◌, length, get_or};
+ghost use Rattle.std.specs.Prelude.{◌≡◌, true, ◌+◌, ◌*◌, ◌≤◌, ◌<◌, length, get_or, Some};
 ghost use Rattle.cabac.specs.Numbers.{accepted};
 ghost use Rattle.h264_block.specs.Contexts.{pairs_refusal, contexts_after};
 ghost use Rattle.h264_block.specs.Entries.{read_payload};
 ghost use Rattle.h264_reader.specs.EntriesAgree.{payload_read};
-ghost use Rattle.h264_frame.specs.Frame.{no_levels, byte_signed, pairs_of, formed, started_shown, started_levels, shown, levels_of, zigzag};
+ghost use Rattle.h264_frame.specs.Frame.{no_levels, byte_signed, pairs_of, formed, started_read, started_levels, shown, levels_of, zigzag};
 
 use bins::state::Engine;
-use cabac::answers::State;
 use cabac_engine::engine::start;
 use h264_contexts::contexts::init_pairs;
 use h264_reader::entries::{Read, residual_block};
 
-// The greatest magnitude and the state behind the block, or the number of the refusal; or these are not the bytes of a frame.
-#[derive(Clone, Copy)]
-pub enum Shown {
-    Block(u32, Engine),
-    Refused(u32),
-    NoFrame,
-}
+// The block found, or the number of the refusal; none where these are not the bytes of a frame.
+pub type Shown = Option<Read>;
 
 // A byte as two's complement has it.
 fn signed(b: u8) -> i32
     ensures { result ≡ byte_signed b }
 {
-    if b < 128 {
-        return b as i32;
-    }
-    -((256 - b as u32) as i32)
+    i32::from(b.cast_signed())
 }
 
 // The numbers of the pairs, m before n.
@@ -37,13 +28,9 @@ fn put_pairs(bytes: &[u8], out: &mut [i32; 80])
     requires { 83 ≤ length bytes.now }
     ensures { out.new ≡ pairs_of bytes.now }
 {
-    let mut fresh = [0i32; 80];
-    let mut i: usize = 0;
-    while i < 80 {
-        fresh[i] = signed(bytes[3 + i]);
-        i += 1;
+    for (i, number) in out.iter_mut().enumerate() {
+        *number = signed(bytes[3 + i]);
     }
-    *out = fresh;
 }
 
 // Arrays lent as slices, whose length no caller has to show.
@@ -60,19 +47,15 @@ fn block(bytes: &[u8], e: Engine, contexts: &mut [u8; 40], levels: &mut [i32; 16
 }
 
 // The block, from the state behind the start, with the frame's own contexts.
-fn read_from(bytes: &[u8], e: Engine, levels: &mut [i32; 16]) -> Shown
+fn read_from(bytes: &[u8], e: Engine, levels: &mut [i32; 16]) -> Read
     requires { (83 ≤ length bytes.now) × (levels.old ≡ no_levels) }
-    ensures { (result ≡ started_shown bytes.now (accepted e)) × (levels.new ≡ started_levels bytes.now (accepted e)) }
+    ensures { (result ≡ started_read bytes.now (accepted e)) × (levels.new ≡ started_levels bytes.now (accepted e)) }
 {
     let mut contexts = [0u8; 40];
     let mut pairs = [0i32; 80];
     put_pairs(bytes, &mut pairs);
     initial(&mut contexts, &pairs, bytes[0]);
-    let r = block(&bytes[83..], e, &mut contexts, levels);
-    match r {
-        Read::Block(greatest, next) => Shown::Block(greatest, next),
-        Read::Refused(n) => Shown::Refused(n),
-    }
+    block(&bytes[83..], e, &mut contexts, levels)
 }
 
 // What the two bytes of the length say.
@@ -92,14 +75,14 @@ fn is_formed(bytes: &[u8]) -> bool
 }
 
 // 1 and 5 of the start, then the reader's own.
-fn read_formed(bytes: &[u8], levels: &mut [i32; 16]) -> Shown
+fn read_formed(bytes: &[u8], levels: &mut [i32; 16]) -> Read
     requires { (true ≡ formed bytes.now) × (83 ≤ length bytes.now) × (levels.old ≡ no_levels) }
-    ensures { (result ≡ shown bytes.now) × (levels.new ≡ levels_of bytes.now) }
+    ensures { (Some result ≡ shown bytes.now) × (levels.new ≡ levels_of bytes.now) }
 {
     let s = start(&bytes[83..]);
     match s {
-        State::Ready(e) => read_from(bytes, e, levels),
-        State::Refused(n) => Shown::Refused(n),
+        Ok(e) => read_from(bytes, e, levels),
+        Err(n) => Err(n),
     }
 }
 
@@ -109,9 +92,9 @@ pub fn read_frame(bytes: &[u8], levels: &mut [i32; 16]) -> Shown
 {
     *levels = [0i32; 16];
     if is_formed(bytes) {
-        return read_formed(bytes, levels);
+        return Some(read_formed(bytes, levels));
     }
-    Shown::NoFrame
+    None
 }
 
 // The list place of the level in each row and column, row by row: the zig-zag scan of frames.

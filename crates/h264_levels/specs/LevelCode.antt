@@ -1,25 +1,23 @@
 -- The levels as their code reads them. Assumes nothing.
-use Rattle.std.specs.Prelude.{ℕ, zero, suc, ◌+◌, ◌-◌, ◌≤◌, ◌<◌, ◌≡◌, Bool, true, false, cond, List, [], ◌∷◌, ltb, leb, eqb, length, get_or, set, ℤ, nat_abs}
+use Rattle.std.specs.Prelude.{ℕ, suc, ◌+◌, ◌-◌, ◌≤◌, ◌<◌, ◌≡◌, Bool, true, false, cond, List, ◌∷◌, ltb, leb, eqb, set, ℤ, nat_abs}
 use Rattle.std.proofs.Math.Path.{refl, ap, subst}
 use Rattle.std.proofs.Common.{sym, ◌∙◌, add-one, lt-ltb, le-ltb}
 use native.Mathlib.Omega.{arith}
 use Rattle.bins.specs.declared.state.Interval.{Interval}
 use Rattle.bins.specs.declared.state.Refusal.{Refusal}
-use Rattle.bins.specs.declared.state.Step.{Step}
-use Rattle.bins.specs.declared.state.Step.TheVariants as step
 use Rattle.bins.specs.Engine.{bit_no}
-use Rattle.bins.specs.Syn.{Syn, done, stop, bypass, ◌>>=◌, Out, run}
-use Rattle.bins.specs.Sources.{Cursor, cursor, by_code, bypass_from, step_of, stopped}
+use Rattle.bins.specs.Syn.{stop, bypass, ◌>>=◌, Out}
+use Rattle.bins.specs.Sources.{cursor, by_code, bypass_from, step_of, stopped, Step, got, refused_at}
 use Rattle.bins.specs.Laws.{RefusedBy, bind_ok, bind_no}
 use Rattle.trees.specs.Levels.{negative, signed, in_range, down_from}
-use Rattle.trees.specs.Agree.{Reads, from, Says, SaysFlag, reads_on, says_ok, says_no, flag_ok, flag_no_lem, run_stop}
+use Rattle.trees.specs.Agree.{Reads, from, Says, reads_on, says_ok, says_no, flag_ok, flag_no_lem, run_stop}
 use Rattle.trees.specs.Pick.{picked, passed}
 use Rattle.tree_shapes.specs.Plain.{bypass_p}
 use Rattle.tree_shapes.specs.ShapeLaws.{run_done, bypass_says, bypass_then, bypass_then_no}
 use Rattle.trees.specs.Reached.{each_run}
 use Rattle.h264_block.specs.Block.{S, level_at, magnitude_s, levels_s}
 use Rattle.h264_block.proofs.BlockBounds.{magnitude_each}
-use Rattle.h264_block.specs.BlockAgree.{marked, SaysLevel, SaysLevels}
+use Rattle.h264_block.specs.BlockAgree.{marked, SaysLevel}
 
 -- ---- the range
 pub range_minus : (neg : Bool) (m : ℕ) → neg ≡ true → leb m 32768 ≡ in_range 15 neg m
@@ -67,13 +65,13 @@ module _ (s : Bool) (l : List ℕ) (ones bigs k : ℕ) (x : Interval) (cs : List
   size : List ℤ → ℕ
   size w = nat_abs (level_at w k) - 1
 
-  pub level_refused : (m : Refusal) → f ≡ stopped m → SaysLevel f s l ones bigs k x cs ds lv lv'
+  pub level_refused : (m : Refusal) → f ≡ stopped m → SaysLevel (stopped m) s l ones bigs k x cs ds lv lv'
   unfolding size
-  level_refused m q = subst (λ (z : Step). SaysLevel z s l ones bigs k x cs ds lv lv') (sym q) (λ ks.
+  level_refused m q = λ ks.
       let r = bind_no (by_code s l) (magnitude_s ones bigs size) (sized_s ones bigs k ks lv) (cursor x cs) m (says_no f m ds _ (F size) q) in
-      (r.0, ap (λ t. from s l t x cs) (is ones bigs k ks lv) ∙ r.1))
+      (r.0, ap (λ t. from s l t x cs) (is ones bigs k ks lv) ∙ r.1)
 
-  module _ (v : ℕ) (y : Interval) (q : f ≡ step.Bin v y) where
+  module _ (v : ℕ) (y : Interval) (q : f ≡ got v y) where
     pub level_small : v < 65549
     level_small =
         (each_run (by_code s l) (magnitude_each {n = 0} ones bigs size) (cursor x cs) v (cursor y ds) (says_ok f v y ds _ (F size) q)).1
@@ -87,12 +85,12 @@ module _ (s : Bool) (l : List ℕ) (ones bigs k : ℕ) (x : Interval) (cs : List
         ∙ bind_ok (by_code s l) (magnitude_s ones bigs size) (sized_s ones bigs k ks lv) (cursor x cs) v (cursor y ds) (says_ok f v y ds _ (F size) q)
 
     module _ (g : Step) (G : g ≡ step_of y (bypass_from s l y)) where
-      pub level_short : (m : Refusal) → g ≡ stopped m → SaysLevel g s l ones bigs k x cs ds lv lv'
-      level_short m e = subst (λ (z : Step). SaysLevel z s l ones bigs k x cs ds lv lv') (sym e) (λ ks.
+      pub level_short : (m : Refusal) → g ≡ stopped m → SaysLevel (stopped m) s l ones bigs k x cs ds lv lv'
+      level_short m e = λ ks.
           let r = bypass_then_no s l y ds (λ w. negative (level_at w k)) (signed_s ones bigs k ks lv v) m (flag_no_lem g m ds _ (bypass_says s l y ds g G) e) in
-          (r.0, onto ks ∙ r.1))
+          (r.0, onto ks ∙ r.1)
 
-      module _ (c : ℕ) (z : Interval) (e : g ≡ step.Bin c z) where
+      module _ (c : ℕ) (z : Interval) (e : g ≡ got c z) where
         flag : (b : Bool) × (c ≡ bit_no b) × (from s l bypass_p y ds ≡ Out.ok b (cursor z ds))
         flag = flag_ok g c z ds _ (bypass_says s l y ds g G) e
 
@@ -102,14 +100,14 @@ module _ (s : Bool) (l : List ℕ) (ones bigs k : ℕ) (x : Interval) (cs : List
             onto ks ∙ bypass_then s l y ds (λ w. negative (level_at w k)) (signed_s ones bigs k ks lv v) flag.0 z ds flag.2
             ∙ ap (λ d. from s l (signed_s ones bigs k ks lv v d) z ds) b
 
-        pub level_out : in_range 15 (eqb c 1) (v + 1) ≡ false → SaysLevel (step.Refused 8 z) s l ones bigs k x cs ds lv lv'
+        pub level_out : in_range 15 (eqb c 1) (v + 1) ≡ false → SaysLevel (stopped (refused_at 8 z)) s l ones bigs k x cs ds lv lv'
         level_out u ks =
             (ds, both ks ∙ out_stops s l ones bigs k ks lv v (eqb c 1) z ds (ap (in_range 15 (eqb c 1)) (sym (add-one v)) ∙ u))
 
         pub level_most : in_range 15 (eqb c 1) (v + 1) ≡ true → v + 1 ≤ 4194304
         level_most u = omega (arith, level_small)
 
-        pub level_got : in_range 15 (eqb c 1) (v + 1) ≡ true → lv' ≡ set lv k (signed (eqb c 1) (v + 1)) → SaysLevel (step.Bin v z) s l ones bigs k x cs ds lv lv'
+        pub level_got : in_range 15 (eqb c 1) (v + 1) ≡ true → lv' ≡ set lv k (signed (eqb c 1) (v + 1)) → SaysLevel (got v z) s l ones bigs k x cs ds lv lv'
         level_got u i = (
           reads_on s l bypass_p y ds flag.0 z ds flag.2 level_reads,
           λ ks.
@@ -162,14 +160,14 @@ module _ (s : Bool) (l : List ℕ) (marks : List Bool) (x : Interval) (cs : List
             i.left ∙ ap (λ j. from s l (levels_s (down_from (marked marks) j) ones bigs m) y ds) one_less
             ∙ ap (λ t. from s l (levels_s t ones bigs m) y ds) (down_yes (marked marks) (k - 1) q)
 
-        pub levels_refused : (n : Refusal) → r ≡ stopped n → SaysLevels r s l marks x cs es lv m'
+        pub levels_refused : (n : Refusal) → r ≡ stopped n → RefusedBy n (from s l (levels_s (down_from (marked marks) 16) 0 0 lv) x cs)
         levels_refused n u =
             let f : SaysLevel (stopped n) s l ones bigs (k - 1) y ds es m m' = subst (λ (z : Step). SaysLevel z s l ones bigs (k - 1) y ds es m m') u e in
             let b = f (down_from (marked marks) (k - 1)) in
-            subst (λ (z : Step). SaysLevels z s l marks x cs es lv m') (sym u) (b.0, here ∙ b.1)
+            (b.0, here ∙ b.1)
 
-        module _ (v : ℕ) (z : Interval) (u : r ≡ step.Bin v z) where
-          f : SaysLevel (step.Bin v z) s l ones bigs (k - 1) y ds es m m'
+        module _ (v : ℕ) (z : Interval) (u : r ≡ got v z) where
+          f : SaysLevel (got v z) s l ones bigs (k - 1) y ds es m m'
           f = subst (λ (z : Step). SaysLevel z s l ones bigs (k - 1) y ds es m m') u e
 
           pub levels_one : v ≡ 0 → Leveling s l marks x cs lv z es m' (k - 1) (ones + 1) bigs

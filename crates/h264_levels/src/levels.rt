@@ -7,7 +7,7 @@ ghost use Rattle.h264_block.specs.BlockAgree.{SaysLevel, SaysLevels};
 
 use crate::magnitude::magnitude;
 use bin_steps::steps::decode_bypass;
-use bins::state::{Interval, Step};
+use bins::state::{Interval, Refusal, Step, Taken};
 
 fn in_range(negative: bool, m: u32) -> bool
     ensures { result ≡ in_range 15 negative m }
@@ -41,21 +41,18 @@ fn one_level(
     requires { Reads list bytes.now x contexts.old × (k < 16) × (table.now ≡ decisions) }
     ensures { SaysLevel result list bytes.now ones bigs k x contexts.old contexts.new block.old block.new }
 {
-    let f = magnitude(list, table, contexts, ones, bigs, bytes, x);
-    let Step::Bin(v, y) = f else {
-        return f;
-    };
-    let g = decode_bypass(list, bytes, y);
-    let Step::Bin(sign, z) = g else {
-        return g;
-    };
+    let Taken { value: v, next: y } = magnitude(list, table, contexts, ones, bigs, bytes, x)?;
+    let Taken { value: sign, next } = decode_bypass(list, bytes, y)?;
     let negative = sign == 1;
     let m = v + 1;
     if !in_range(negative, m) {
-        return Step::Refused(8, z);
+        return Err(Refusal {
+            number: 8,
+            at: next,
+        });
     }
     store(block, k, negative, m);
-    Step::Bin(v, z)
+    Ok(Taken { value: v, next })
 }
 
 pub fn levels(
@@ -71,16 +68,13 @@ pub fn levels(
     ensures { SaysLevels result list bytes.now marks.now x contexts.old contexts.new block.old block.new }
 {
     let mut y = x;
-    let mut k: usize = 16;
     let mut ones: u32 = 0;
     let mut bigs: u32 = 0;
-    while 0 < k {
-        k -= 1;
+    for k in (0..16).rev() {
         if marks[k] {
-            let s = one_level(list, table, contexts, ones, bigs, k, block, bytes, y);
-            let Step::Bin(v, next) = s else {
-                return s;
-            };
+            let Taken { value: v, next } = one_level(
+                list, table, contexts, ones, bigs, k, block, bytes, y,
+            )?;
             y = next;
             if v == 0 {
                 ones += 1;
@@ -89,5 +83,5 @@ pub fn levels(
             }
         }
     }
-    Step::Bin(0, y)
+    Ok(Taken { value: 0, next: y })
 }

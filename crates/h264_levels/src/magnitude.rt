@@ -7,7 +7,7 @@ ghost use Rattle.trees.specs.Shapes.{golomb_s};
 ghost use Rattle.h264_block.specs.Block.{magnitude_s};
 
 use bin_steps::steps::decode_bypass_bits;
-use bins::state::{Interval, Step};
+use bins::state::{Interval, Refusal, Step, Taken};
 use h264_numbers::numbers::{first_number, later_number};
 use tree_shapes::{count, ones};
 
@@ -16,18 +16,18 @@ fn exp_golomb(list: bool, most: u32, bytes: &[u8], x: Interval) -> Step
     requires { Readable list bytes.now x × (most ≤ 16) }
     ensures { (v : List ℤ → ℕ) (contexts : List ℕ) → Says result contexts (from list bytes.now (golomb_s most 0 v) x contexts) }
 {
-    let f = ones(list, most, bytes, x);
-    let Step::Bin(n, y) = f else {
-        return f;
-    };
+    let Taken { value: n, next: y } = ones(list, most, bytes, x)?;
     if most <= n {
-        return Step::Refused(8, y);
+        return Err(Refusal { number: 8, at: y });
     }
-    let g = decode_bypass_bits(list, bytes, y, n);
-    let Step::Bin(suffix, z) = g else {
-        return g;
-    };
-    Step::Bin((1 << n) - 1 + suffix, z)
+    let Taken {
+        value: suffix,
+        next,
+    } = decode_bypass_bits(list, bytes, y, n)?;
+    Ok(Taken {
+        value: (1 << n) - 1 + suffix,
+        next,
+    })
 }
 
 // Behind so many magnitudes of 1 and so many above 1.
@@ -45,16 +45,13 @@ pub fn magnitude(
 {
     let first = first_number(ones, bigs);
     let later = later_number(bigs);
-    let f = count(list, table, contexts, first, later, 14, bytes, x);
-    let Step::Bin(q, y) = f else {
-        return f;
-    };
+    let Taken { value: q, next: y } = count(list, table, contexts, first, later, 14, bytes, x)?;
     if q < 14 {
-        return Step::Bin(q, y);
+        return Ok(Taken { value: q, next: y });
     }
-    let g = exp_golomb(list, 16, bytes, y);
-    let Step::Bin(v, z) = g else {
-        return g;
-    };
-    Step::Bin(14 + v, z)
+    let Taken { value: v, next } = exp_golomb(list, 16, bytes, y)?;
+    Ok(Taken {
+        value: 14 + v,
+        next,
+    })
 }

@@ -1,5 +1,5 @@
 -- How many bins a block has at most: 30 flags, and 46 for each of 16 levels. Assumes nothing.
-use Rattle.std.specs.Prelude.{ℕ, zero, suc, ◌+◌, ◌*◌, ◌≤◌, ◌≡◌, refl, Bool, List, [], ◌∷◌, ltb, leb, ℤ, pos, length, set, replicate, ◌-◌}
+use Rattle.std.specs.Prelude.{ℕ, zero, suc, ◌+◌, ◌*◌, ◌≤◌, ◌≡◌, List, [], ◌∷◌, ltb, leb, ℤ, pos, length, set, replicate, ◌-◌}
 use Rattle.std.proofs.Common.{arith, leb-false}
 use Rattle.bins.specs.Syn.{Out, run, by_list}
 use Rattle.trees.specs.Levels.{signed, in_range}

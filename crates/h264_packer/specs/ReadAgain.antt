@@ -1,12 +1,12 @@
 -- Request (i) in its own words, of H.264's block: the reader, started on the payload with the same contexts, gives the same levels, greatest magnitude and final
 -- contexts as the list says, never runs past the end, and then reads terminate as 1; the length is its position after that, in whole bytes. Assumes nothing.
-use Rattle.std.specs.Prelude.{ℕ, ◌+◌, ◌*◌, ◌≤◌, ◌≡◌, List, [], length, take, ℤ}
+use Rattle.std.specs.Prelude.{ℕ, ◌≤◌, ◌≡◌, List, [], length, take, ℤ}
 use Rattle.std.proofs.Common.{sym, ◌∙◌, arith}
 use Rattle.std.proofs.Math.Path.{ap}
 use Rattle.bins.specs.declared.state.Engine.{Engine}
 use Rattle.bins.specs.Engine.{started}
 use Rattle.bins.specs.Syn.{Out, run, by_engine, by_list}
-use Rattle.cabac.specs.Numbers.{accepted, ◌or_else◌, payload_refusal, state_refusal, ended_refusal}
+use Rattle.cabac.specs.Numbers.{accepted, payload_refusal, state_refusal, ended_refusal}
 use Rattle.cabac.specs.NumberLaws.{or_else_rest}
 use Rattle.cabac.specs.Entries.{start}
 use Rattle.trees.specs.Levels.{greatest_of}

@@ -5,7 +5,7 @@ ghost use Rattle.packer.specs.IntoCode.{packing_says};
 ghost use Rattle.h264_packer.specs.Entries.{pack_bins};
 ghost use Rattle.h264_packer.specs.Promise.{ReadsBack};
 
-use h264_reader::entries::{ReadList, contexts_refusal, read_bins};
+use h264_reader::entries::{contexts_refusal, read_bins};
 use packer::list::{Packing, pack_list};
 use tables::decision_table;
 
@@ -15,13 +15,12 @@ pub fn pack_bins(contexts: &[u8; 40], list: &[u8], room: &mut [u8]) -> Packing
 {
     let a = contexts_refusal(contexts);
     if a != 0 {
-        return Packing::Refused(a);
+        return Err(a);
     }
     let mut block = [0i32; 16];
-    let r = read_bins(list, &mut block);
-    let ReadList::Block(_) = r else {
-        return Packing::Refused(13);
-    };
+    if read_bins(list, &mut block).is_err() {
+        return Err(13);
+    }
     let table = decision_table();
     let mut first = *contexts;
     let mut again = *contexts;

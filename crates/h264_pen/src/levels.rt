@@ -25,11 +25,9 @@ pub fn put_levels(room: &mut [u8], pen: Pen, levels: &[i32]) -> Pen
     ensures { LevelsPut levels.now (sheet room.old pen) (sheet room.new result) }
 {
     let mut y = pen;
-    let mut k: usize = 16;
     let mut ones: u32 = 0;
     let mut bigs: u32 = 0;
-    while 0 < k {
-        k -= 1;
+    for k in (0..16).rev() {
         let m = magnitude(levels[k]);
         if 0 < m {
             y = put_level(room, y, ones, bigs, levels[k]);

@@ -14,9 +14,7 @@ pub fn last_place(levels: &[i32]) -> usize
     requires { Writable levels.now }
     ensures { Last levels.now result }
 {
-    let mut k: usize = 16;
-    while 0 < k {
-        k -= 1;
+    for k in (0..16).rev() {
         if 0 < magnitude(levels[k]) {
             return k;
         }
@@ -42,10 +40,8 @@ pub fn put_places(room: &mut [u8], pen: Pen, levels: &[i32], last: usize) -> Pen
     ensures { Wrote (places_s 15 0 []) (done (sig_places levels.now)) levels.now (sheet room.old pen) (sheet room.new result) }
 {
     let mut y = pen;
-    let mut k: usize = 0;
-    while k < last {
+    for k in 0..last {
         y = put_place(room, y, k, 0 < magnitude(levels[k]));
-        k += 1;
     }
     if last < 15 {
         let z = put_bin(room, y, last, true);

@@ -1,20 +1,17 @@
 -- The significant places as their code reads them. Assumes nothing.
-use Rattle.std.specs.Prelude.{ℕ, zero, suc, ◌+◌, ◌-◌, ◌≤◌, ◌<◌, ◌≡◌, Bool, cond, eqb, get_or, set, replicate, ℤ}
+use Rattle.std.specs.Prelude.{ℕ, zero, suc, ◌+◌, ◌-◌, ◌≤◌, ◌<◌, ◌≡◌, Bool, cond, eqb, set, replicate, ℤ}
 use Rattle.std.proofs.Math.Path.{refl, ap}
-use Rattle.std.proofs.Common.{sym, subst, ◌∙◌, get_or-set_same, get_or-set_other, eq-eqb, ne_eqb}
+use Rattle.std.proofs.Common.{sym, subst, ◌∙◌, get_or-set_same, get_or-set_other}
 use Rattle.std.proofs.Math.Bool.{true, false}
 use mathlib.Core.List.{List, [], ◌∷◌}
 use native.Mathlib.Omega.{arith}
 use Rattle.std.proofs.Math.Numerals.{add-one}
 use Rattle.std.proofs.Math.ListN.{length, length-set, length-replicate}
-use Rattle.std.proofs.lemmas.List.{get_or-replicate}
 use Rattle.bins.specs.declared.state.Interval.{Interval}
 use Rattle.bins.specs.declared.state.Refusal.{Refusal}
-use Rattle.bins.specs.declared.state.Step.{Step}
-use Rattle.bins.specs.declared.state.Step.TheVariants as step
 use Rattle.bins.specs.Engine.{bit_no}
-use Rattle.bins.specs.Syn.{Syn, done, bin, Out, run}
-use Rattle.bins.specs.Sources.{Cursor, cursor, stopped}
+use Rattle.bins.specs.Syn.{done, bin, Out}
+use Rattle.bins.specs.Sources.{cursor, stopped, Step, got}
 use Rattle.bins.specs.Laws.{RefusedBy}
 use Rattle.trees.specs.Levels.{down_from}
 use Rattle.trees.specs.ListLaws.{down_first}
@@ -23,7 +20,7 @@ use Rattle.tree_shapes.specs.Plain.{bin_p}
 use Rattle.tree_shapes.specs.ShapeLaws.{run_done, bit_zero, bit_one, bin_then, bin_then_no}
 use Rattle.h264_block.specs.Layout.{at_significance, at_last}
 use Rattle.h264_block.specs.Block.{S, is_sig, sig_places, first_of, places_s}
-use Rattle.h264_block.specs.BlockAgree.{place_on, SaysPlace, marked, SaysPlaces}
+use Rattle.h264_block.specs.BlockAgree.{place_on, SaysPlace, marked}
 
 -- ---- the flags of a place
 module _ (n k : ℕ) (ks : List ℕ) where
@@ -46,16 +43,16 @@ unfolding behind_last
 last_no s l n k ks z es = refl
 
 module _ (s : Bool) (l : List ℕ) (k : ℕ) (x : Interval) (cs : List ℕ) (h : Reads s l x cs) (f : Step) (ds : List ℕ) (F : SaysFlag f ds (from s l (bin_p k) x cs)) where
-  pub place_refused : (m : Refusal) → f ≡ stopped m → SaysPlace f s l k x cs ds
-  place_refused m q = subst (λ (z : Step). SaysPlace z s l k x cs ds) (sym q) (λ n ks.
+  pub place_refused : (m : Refusal) → f ≡ stopped m → SaysPlace (stopped m) s l k x cs ds
+  place_refused m q = λ n ks.
       let r = bin_then_no s l x cs (λ w. is_sig w k) (behind_sig n k ks) k m (flag_no_lem f m ds _ F q) in
-      (r.0, ap (λ t. from s l t x cs) (is n k ks) ∙ r.1))
+      (r.0, ap (λ t. from s l t x cs) (is n k ks) ∙ r.1)
 
-  module _ (v : ℕ) (y : Interval) (q : f ≡ step.Bin v y) where
+  module _ (v : ℕ) (y : Interval) (q : f ≡ got v y) where
     onto : (b : Bool) → from s l (bin_p k) x cs ≡ Out.ok b (cursor y ds) → (n : ℕ) (ks : List ℕ) → from s l (places_s (suc n) k ks) x cs ≡ from s l (behind_sig n k ks b) y ds
     onto b e n ks = ap (λ t. from s l t x cs) (is n k ks) ∙ bin_then s l x cs (λ w. is_sig w k) (behind_sig n k ks) k b y ds e
 
-    pub place_none : v ≡ 0 → SaysPlace (step.Bin 0 y) s l k x cs ds
+    pub place_none : v ≡ 0 → SaysPlace (got 0 y) s l k x cs ds
     unfolding behind_sig
     place_none u =
         let g = flag_ok f v y ds _ F q in
@@ -77,31 +74,31 @@ module _ (s : Bool) (l : List ℕ) (k : ℕ) (x : Interval) (cs : List ℕ) (h :
             let b : g.0 ≡ true = bit_one g.0 (λ e. u (g.1 ∙ e)) in
             onto g.0 g.2 n ks ∙ ap (λ d. from s l (behind_sig n k ks d) y ds) b
 
-        pub place_short : (m : Refusal) → g ≡ stopped m → SaysPlace g s l k x cs es
-        place_short m e = subst (λ (z : Step). SaysPlace z s l k x cs es) (sym e) (λ n ks.
+        pub place_short : (m : Refusal) → g ≡ stopped m → SaysPlace (stopped m) s l k x cs es
+        place_short m e = λ n ks.
             let r = bin_then_no s l y ds (λ w. eqb (first_of (sig_places w)) k) (behind_last n k ks) (15 + k) m (flag_no_lem g m es _ G e) in
-            (r.0, sig n ks ∙ r.1))
+            (r.0, sig n ks ∙ r.1)
 
-        pub place_bit : (c : ℕ) (z : Interval) → g ≡ step.Bin c z → c ≤ 1
+        pub place_bit : (c : ℕ) (z : Interval) → g ≡ got c z → c ≤ 1
         place_bit c z e = let r = flag_ok g c z es _ G e in go r.0 c r.1
           where
             go : (b : Bool) (c : ℕ) → c ≡ bit_no b → c ≤ 1
             go true c q = omega arith
             go false c q = omega arith
 
-        pub place_got : (c : ℕ) (z : Interval) → g ≡ step.Bin c z → SaysPlace (step.Bin (1 + c) z) s l k x cs es
+        pub place_got : (c : ℕ) (z : Interval) → g ≡ got c z → SaysPlace (got (1 + c) z) s l k x cs es
         place_got c z e = let r = flag_ok g c z es _ G e in go r.0 c r.1 r.2
           where
             all : (b : Bool) → from s l (bin_p (15 + k)) y ds ≡ Out.ok b (cursor z es) → (n : ℕ) (ks : List ℕ)
                 → from s l (places_s (suc n) k ks) x cs ≡ from s l (behind_last n k ks b) z es
             all b o n ks = sig n ks ∙ bin_then s l y ds (λ w. eqb (first_of (sig_places w)) k) (behind_last n k ks) (15 + k) b z es o
 
-            by : (b : Bool) → from s l (bin_p (15 + k)) y ds ≡ Out.ok b (cursor z es) → SaysPlace (step.Bin (1 + bit_no b) z) s l k x cs es
+            by : (b : Bool) → from s l (bin_p (15 + k)) y ds ≡ Out.ok b (cursor z es) → SaysPlace (got (1 + bit_no b) z) s l k x cs es
             by true o = (reads_on s l (bin_p (15 + k)) y ds true z es o place_reads, omega arith, λ n ks. all true o n ks ∙ last_yes s l n k ks z es)
             by false o = (reads_on s l (bin_p (15 + k)) y ds false z es o place_reads, omega arith, λ n ks. all false o n ks ∙ last_no s l n k ks z es)
 
-            go : (b : Bool) (c : ℕ) → c ≡ bit_no b → from s l (bin_p (15 + k)) y ds ≡ Out.ok b (cursor z es) → SaysPlace (step.Bin (1 + c) z) s l k x cs es
-            go b c p o = subst (λ (c : ℕ). SaysPlace (step.Bin (1 + c) z) s l k x cs es) (sym p) (by b o)
+            go : (b : Bool) (c : ℕ) → c ≡ bit_no b → from s l (bin_p (15 + k)) y ds ≡ Out.ok b (cursor z es) → SaysPlace (got (1 + c) z) s l k x cs es
+            go b c p o = subst (λ (c : ℕ). SaysPlace (got (1 + c) z) s l k x cs es) (sym p) (by b o)
 
 -- ---- marks
 pub down_same : (s t : ℕ → Bool) (n : ℕ) → ((j : ℕ) → j < n → s j ≡ t j) → down_from s n ≡ down_from t n
@@ -167,14 +164,14 @@ module _ (s : Bool) (l : List ℕ) (x : Interval) (cs : List ℕ) where
           let m : 15 - k ≡ suc (15 - (k + 1)) = omega (arith, i.few) in
           i.left ∙ ap (λ n. from s l (places_s n k (down_from (marked marks) k)) y ds) m
 
-      pub places_refused : (m : Refusal) → r ≡ stopped m → (marks' : List Bool) → SaysPlaces r s l x cs es marks'
-      places_refused m q marks' =
+      pub places_refused : (m : Refusal) → r ≡ stopped m → RefusedBy m (from s l (places_s 15 0 []) x cs)
+      places_refused m q =
           let f : SaysPlace (stopped m) s l k y ds es = subst (λ (z : Step). SaysPlace z s l k y ds es) q e in
           let b = f (15 - (k + 1)) (down_from (marked marks) k) in
-          subst (λ (z : Step). SaysPlaces z s l x cs es marks') (sym q) (b.0, next ∙ b.1)
+          (b.0, next ∙ b.1)
 
-      module _ (v : ℕ) (z : Interval) (q : r ≡ step.Bin v z) where
-        f : SaysPlace (step.Bin v z) s l k y ds es
+      module _ (v : ℕ) (z : Interval) (q : r ≡ got v z) where
+        f : SaysPlace (got v z) s l k y ds es
         f = subst (λ (z : Step). SaysPlace z s l k y ds es) q e
 
         pub places_last : v ≡ 2 → from s l (places_s 15 0 []) x cs ≡ Out.ok (down_from (marked (set marks k true)) 16) (cursor z es)

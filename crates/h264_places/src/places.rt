@@ -4,7 +4,7 @@ ghost use Rattle.tables.specs.Decisions.{decisions};
 ghost use Rattle.trees.specs.Agree.{Reads};
 ghost use Rattle.h264_block.specs.BlockAgree.{SaysPlace, SaysPlaces};
 
-use bins::state::{Interval, Step};
+use bins::state::{Interval, Step, Taken};
 use tree_shapes::context_bin;
 
 // The flags of place k: 0 not significant, 1 significant, 2 the last.
@@ -19,18 +19,12 @@ fn place_flags(
     requires { Reads list bytes.now x contexts.old × (k < 15) × (table.now ≡ decisions) }
     ensures { SaysPlace result list bytes.now k x contexts.old contexts.new }
 {
-    let f = context_bin(list, table, contexts, k, bytes, x);
-    let Step::Bin(b, y) = f else {
-        return f;
-    };
+    let Taken { value: b, next: y } = context_bin(list, table, contexts, k, bytes, x)?;
     if b == 0 {
-        return Step::Bin(0, y);
+        return Ok(Taken { value: 0, next: y });
     }
-    let g = context_bin(list, table, contexts, 15 + k, bytes, y);
-    let Step::Bin(e, z) = g else {
-        return g;
-    };
-    Step::Bin(1 + e, z)
+    let Taken { value: e, next } = context_bin(list, table, contexts, 15 + k, bytes, y)?;
+    Ok(Taken { value: 1 + e, next })
 }
 
 // Flags for places 0 to 14; place 15 is inferred if none was last.
@@ -46,20 +40,15 @@ pub fn places(
     ensures { SaysPlaces result list bytes.now x contexts.old contexts.new marks.new }
 {
     let mut y = x;
-    let mut k: usize = 0;
-    while k < 15 {
-        let s = place_flags(list, table, contexts, k, bytes, y);
-        let Step::Bin(v, next) = s else {
-            return s;
-        };
+    for k in 0..15 {
+        let Taken { value: v, next } = place_flags(list, table, contexts, k, bytes, y)?;
         y = next;
         if v == 2 {
             marks[k] = true;
-            return Step::Bin(0, y);
+            return Ok(Taken { value: 0, next: y });
         }
         marks[k] = v == 1;
-        k += 1;
     }
     marks[15] = true;
-    Step::Bin(0, y)
+    Ok(Taken { value: 0, next: y })
 }

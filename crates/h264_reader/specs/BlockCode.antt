@@ -1,5 +1,5 @@
 -- The whole block as its code reads it. Assumes nothing.
-use Rattle.std.specs.Prelude.{ℕ, suc, ◌+◌, ◌≤◌, ◌<◌, ◌≡◌, refl, Bool, length, get_or, set, drop, replicate, ℤ, pos}
+use Rattle.std.specs.Prelude.{ℕ, suc, ◌+◌, ◌≤◌, ◌<◌, ◌≡◌, refl, Bool, length, get_or, set, drop, replicate, ℤ, pos, Ok, Err}
 use Rattle.std.proofs.Common.{sym, subst, ◌∙◌, arith, add-one, take_all}
 use Rattle.std.proofs.Math.Path.{ap}
 use mathlib.Core.List.{List, [], ◌++◌}
@@ -7,11 +7,9 @@ use Rattle.std.proofs.Math.Seq.{paste, paste-zero, paste-suc}
 use Rattle.std.proofs.lemmas.List.Edits.{length-paste}
 use Rattle.bins.specs.declared.state.Interval.{Interval}
 use Rattle.bins.specs.declared.state.Refusal.{Refusal}
-use Rattle.bins.specs.declared.state.Step.{Step}
-use Rattle.bins.specs.declared.state.Step.TheVariants as step
 use Rattle.bins.specs.Syn.{◌>>=◌}
-use Rattle.bins.specs.Sources.{cursor, by_code, stopped}
-use Rattle.bins.specs.Laws.{bind_ok, bind_no}
+use Rattle.bins.specs.Sources.{cursor, by_code, stopped, Step, got}
+use Rattle.bins.specs.Laws.{RefusedBy, bind_ok, bind_no}
 use Rattle.trees.specs.Levels.{down_from, greatest_of}
 use Rattle.trees.specs.Agree.{Reads, from, reads_on}
 use Rattle.h264_block.specs.Block.{S, places_s, levels_s, block}
@@ -33,32 +31,32 @@ unfolding filled
 filled_is s l ks y ds = refl
 
 module _ (s : Bool) (l : List ℕ) (x : Interval) (cs : List ℕ) (f : Step) (ds : List ℕ) (marks : List Bool) (F : SaysPlaces f s l x cs ds marks) where
-  pub block_refused : (m : Refusal) → f ≡ stopped m → (lv : List ℤ) → SaysBlock f s l x cs ds lv
-  block_refused m q lv =
+  pub block_refused : (m : Refusal) → f ≡ stopped m → RefusedBy m (from s l block x cs)
+  block_refused m q =
       let n : SaysPlaces (stopped m) s l x cs ds marks = subst (λ (z : Step). SaysPlaces z s l x cs ds marks) q F in
       let r = bind_no (by_code s l) (places_s 15 0 []) filled (cursor x cs) m n in
-      subst (λ (z : Step). SaysBlock z s l x cs ds lv) (sym q) (r.0, ap (λ t. from s l t x cs) is ∙ r.1)
+      (r.0, ap (λ t. from s l t x cs) is ∙ r.1)
 
-  module _ (v : ℕ) (y : Interval) (q : f ≡ step.Bin v y) where
-    got : SaysPlaces (step.Bin v y) s l x cs ds marks
-    got = subst (λ (z : Step). SaysPlaces z s l x cs ds marks) q F
+  module _ (v : ℕ) (y : Interval) (q : f ≡ got v y) where
+    read : SaysPlaces (got v y) s l x cs ds marks
+    read = subst (λ (z : Step). SaysPlaces z s l x cs ds marks) q F
 
     pub block_reads : Reads s l x cs → Reads s l y ds
-    unfolding got
-    block_reads h = reads_on s l (places_s 15 0 []) x cs (down_from (marked marks) 16) y ds got h
+    unfolding read
+    block_reads h = reads_on s l (places_s 15 0 []) x cs (down_from (marked marks) 16) y ds read h
 
     -- g is what the levels answered
     pub block_levels : (lv lv' : List ℤ) → lv ≡ replicate 16 (pos 0) → (g : Step) (es : List ℕ) → SaysLevels g s l marks y ds es lv lv' → SaysBlock g s l x cs es lv'
-    unfolding got
+    unfolding read
     block_levels lv lv' e g es G = by g (subst (λ (z : List ℤ). SaysLevels g s l marks y ds es z lv') e G)
       where
         on : from s l block x cs ≡ from s l (levels_s (down_from (marked marks) 16) 0 0 (replicate 16 (pos 0))) y ds
-        on = ap (λ t. from s l t x cs) is ∙ bind_ok (by_code s l) (places_s 15 0 []) filled (cursor x cs) (down_from (marked marks) 16) (cursor y ds) got
+        on = ap (λ t. from s l t x cs) is ∙ bind_ok (by_code s l) (places_s 15 0 []) filled (cursor x cs) (down_from (marked marks) 16) (cursor y ds) read
             ∙ filled_is s l (down_from (marked marks) 16) y ds
 
         by : (g : Step) → SaysLevels g s l marks y ds es (replicate 16 (pos 0)) lv' → SaysBlock g s l x cs es lv'
-        by (step.Bin u z) h = on ∙ h
-        by (step.Refused n at) h = (h.0, on ∙ h.1)
+        by (Ok t) h = on ∙ h
+        by (Err n) h = (h.0, on ∙ h.1)
 
 -- ---- a copy to the front
 -- in the loop, at place i
@@ -90,16 +88,15 @@ module _ (lent levels : List ℤ) (h : 16 ≤ length lent) where
         c.is ∙ ap (paste lent 0 levels) e ∙ ap (λ (t : List ℤ). t ++ drop 16 lent) (take_all 16 levels (omega arith))
 
 module _ (s : Bool) (l : List ℕ) (x : Interval) (cs ds : List ℕ) (lv : List ℤ) (r : Step) (h : SaysBlock r s l x cs ds lv) where
-  pub block_long : (v : ℕ) (y : Interval) → r ≡ step.Bin v y → length lv ≡ 16
+  pub block_long : (v : ℕ) (y : Interval) → r ≡ got v y → length lv ≡ 16
   block_long v y q =
       (each_run (by_code s l) (block_each {n = 0}) (cursor x cs) lv (cursor y ds) (subst (λ (z : Step). SaysBlock z s l x cs ds lv) q h)).1
 
   -- ---- into the front of a lent block
-  pub into_refused : (m : Refusal) → r ≡ stopped m → (lent lent' : List ℤ) → lent' ≡ cleared lent → SaysInto r s l x cs cs lent lent'
+  pub into_refused : (m : Refusal) → r ≡ stopped m → (lent lent' : List ℤ) → lent' ≡ cleared lent → SaysInto (stopped m) s l x cs cs lent lent'
   into_refused m q lent lent' e =
-      let n : SaysBlock (stopped m) s l x cs ds lv = subst (λ (z : Step). SaysBlock z s l x cs ds lv) q h in
-      subst (λ (z : Step). SaysInto z s l x cs cs lent lent') (sym q) (n, refl, e)
+      (subst (λ (z : Step). SaysBlock z s l x cs ds lv) q h, refl, e)
 
-  pub into_got : (v : ℕ) (y : Interval) → r ≡ step.Bin v y → (lent lent' : List ℤ) → lent' ≡ block_with lv lent → (g : ℕ) → g ≡ greatest_of lv
-      → SaysInto (step.Bin g y) s l x cs ds lent lent'
+  pub into_got : (v : ℕ) (y : Interval) → r ≡ got v y → (lent lent' : List ℤ) → lent' ≡ block_with lv lent → (g : ℕ) → g ≡ greatest_of lv
+      → SaysInto (got g y) s l x cs ds lent lent'
   into_got v y q lent lent' e g u = (lv, e, u, subst (λ (z : Step). SaysBlock z s l x cs ds lv) q h)

@@ -2,10 +2,10 @@
 ghost use Rattle.std.specs.Prelude.{◌≡◌, ◌≤◌, length, replicate, pos};
 ghost use Rattle.tables.specs.Decisions.{decisions};
 ghost use Rattle.trees.specs.Agree.{Reads};
-ghost use Rattle.h264_block.specs.Entries.{block_with};
+ghost use Rattle.h264_block.specs.Entries.{block_with, cleared};
 ghost use Rattle.h264_block.specs.BlockAgree.{SaysBlock, SaysInto};
 
-use bins::state::{Interval, Step};
+use bins::state::{Interval, Step, Taken};
 use h264_levels::levels::levels;
 use h264_places::places::places;
 use level_sizes::sizes::greatest;
@@ -24,11 +24,8 @@ fn read_block(
     ensures { SaysBlock result list bytes.now x contexts.old contexts.new block.new }
 {
     let mut marks = [false; 16];
-    let f = places(list, table, contexts, &mut marks, bytes, x);
-    let Step::Bin(_, y) = f else {
-        return f;
-    };
-    levels(list, table, contexts, &marks, block, bytes, y)
+    let Taken { next, .. } = places(list, table, contexts, &mut marks, bytes, x)?;
+    levels(list, table, contexts, &marks, block, bytes, next)
 }
 
 // Sixteen levels to the front of a block.
@@ -36,11 +33,15 @@ pub fn copy(block: &mut [i32], levels: &[i32; 16])
     requires { (16 ≤ length block.old) × (length levels.now ≡ 16) }
     ensures { block.new ≡ block_with levels.now block.old }
 {
-    let mut i: usize = 0;
-    while i < 16 {
-        block[i] = levels[i];
-        i += 1;
-    }
+    block[..16].copy_from_slice(levels);
+}
+
+// The front of a block, without levels.
+pub(crate) fn clear(block: &mut [i32])
+    requires { 16 ≤ length block.old }
+    ensures { block.new ≡ cleared block.old }
+{
+    block[..16].fill(0);
 }
 
 // A block to the front of a lent one, and its greatest magnitude. Contexts are copied, and stored again only where the block is accepted; a refused block is zero.
@@ -57,13 +58,18 @@ pub fn read_into(
     let table = decision_table();
     let mut cs = *contexts;
     let mut levels = [0i32; 16];
-    let r = read_block(list, &table, &mut cs, &mut levels, bytes, x);
-    let Step::Bin(_, y) = r else {
-        let zeros = [0i32; 16];
-        copy(block, &zeros);
-        return r;
-    };
-    copy(block, &levels);
-    *contexts = cs;
-    Step::Bin(greatest(&levels), y)
+    match read_block(list, &table, &mut cs, &mut levels, bytes, x) {
+        Ok(Taken { next, .. }) => {
+            copy(block, &levels);
+            *contexts = cs;
+            Ok(Taken {
+                value: greatest(&levels),
+                next,
+            })
+        }
+        Err(r) => {
+            clear(block);
+            Err(r)
+        }
+    }
 }

@@ -1,28 +1,28 @@
 // The two entry points: a block from a payload, and a block from a bin list. Each takes anything: what is not accepted is answered by its number.
 ghost use Rattle.std.specs.Prelude.{◌≡◌};
+ghost use Rattle.cabac.specs.Numbers.{checked};
 ghost use Rattle.trees.specs.Lent.{contexts_refusal};
 ghost use Rattle.h264_block.specs.Entries.{block_refusal, read_payload, read_bins};
-ghost use Rattle.h264_reader.specs.EntriesAgree.{payload_read, bins_read, payload_checks, step_no};
+ghost use Rattle.h264_reader.specs.EntriesAgree.{payload_read, bins_read, payload_checks};
 
-use crate::block::{copy, read_into};
+use crate::block::{clear, read_into};
 use bins::places::SourcePlace;
-use bins::state::{Engine, Interval, Step};
-use cabac_checks::checks::{payload_refusal, state_refusal};
+use bins::state::{Engine, Interval, Taken};
+use cabac_checks::checks::{passed, payload_refusal, state_refusal};
 use cabac_state::engine::{open, settle};
 
-// The greatest magnitude and the state behind a block, or the number of the refusal.
+// The greatest magnitude of a block, and the state behind it.
 #[derive(Clone, Copy)]
-pub enum Read {
-    Block(u32, Engine),
-    Refused(u32),
+pub struct Found {
+    pub greatest: u32,
+    pub next: Engine,
 }
 
+// A block found, or the number of the refusal.
+pub type Read = Result<Found, u32>;
+
 // The greatest magnitude, or the number of the refusal.
-#[derive(Clone, Copy)]
-pub enum ReadList {
-    Block(u32),
-    Refused(u32),
-}
+pub type ReadList = Result<u32, u32>;
 
 // 4
 fn block_refusal(block: &[i32]) -> u32
@@ -38,65 +38,43 @@ fn block_refusal(block: &[i32]) -> u32
 pub fn contexts_refusal(contexts: &[u8]) -> u32
     ensures { result ≡ contexts_refusal contexts.now }
 {
-    let mut i: usize = 0;
-    while i < contexts.len() {
-        if 127 < contexts[i] {
-            return 3;
-        }
-        i += 1;
+    if contexts.iter().any(|c| 127 < *c) {
+        return 3;
     }
     0
 }
 
 // 1, 2, 4, 3, 6
-fn payload_checks(bytes: &[u8], e: Engine, contexts: &[u8], block: &[i32]) -> u32
-    ensures { result ≡ payload_checks bytes.now e contexts.now block.now }
+fn check_payload(bytes: &[u8], e: Engine, contexts: &[u8], block: &[i32]) -> Result<(), u32>
+    ensures { result ≡ checked (payload_checks bytes.now e contexts.now block.now) }
 {
-    let a = payload_refusal(bytes);
-    if a != 0 {
-        return a;
-    }
-    let b = block_refusal(block);
-    if b != 0 {
-        return b;
-    }
-    let c = state_refusal(bytes, e);
-    if c != 0 {
-        return c;
-    }
-    let d = contexts_refusal(contexts);
-    if d != 0 {
-        return d;
-    }
+    passed(payload_refusal(bytes))?;
+    passed(block_refusal(block))?;
+    passed(state_refusal(bytes, e))?;
+    passed(contexts_refusal(contexts))?;
     if e.ended {
-        return 6;
+        return Err(6);
     }
-    0
-}
-
-fn step_refusal(r: Step) -> u32
-    ensures { result ≡ step_no r }
-{
-    match r {
-        Step::Bin(_, _) => 0,
-        Step::Refused(n, _) => n,
-    }
+    Ok(())
 }
 
 // One block from a payload.
 pub fn residual_block(bytes: &[u8], e: Engine, contexts: &mut [u8; 40], block: &mut [i32]) -> Read
     ensures { payload_read result contexts.new block.new ≡ read_payload bytes.now e contexts.old block.old }
 {
-    let n = payload_checks(bytes, e, contexts, block);
-    if n != 0 {
-        return Read::Refused(n);
+    check_payload(bytes, e, contexts, block)?;
+    match read_into(false, contexts, bytes, block, open(e)) {
+        Ok(
+            Taken {
+                value: greatest,
+                next: x,
+            },
+        ) => Ok(Found {
+            greatest,
+            next: settle(bytes, e, x),
+        }),
+        Err(r) => Err(r.number),
     }
-    let r = read_into(false, contexts, bytes, block, open(e));
-    let Step::Bin(greatest, x) = r else {
-        return Read::Refused(step_refusal(r));
-    };
-    let state = settle(bytes, e, x);
-    Read::Block(greatest, state)
 }
 
 // One block from a bin list, which it must end.
@@ -105,7 +83,7 @@ pub fn read_bins(bytes: &[u8], block: &mut [i32]) -> ReadList
 {
     let n = block_refusal(block);
     if n != 0 {
-        return ReadList::Refused(n);
+        return Err(n);
     }
     let mut contexts = [0u8; 40];
     let front = Interval {
@@ -113,15 +91,20 @@ pub fn read_bins(bytes: &[u8], block: &mut [i32]) -> ReadList
         offset: 0,
         position: SourcePlace(0),
     };
-    let r = read_into(true, &mut contexts, bytes, block, front);
-    let Step::Bin(greatest, x) = r else {
-        return ReadList::Refused(step_refusal(r));
-    };
-    let at = x.position;
-    if at.0 != bytes.len() {
-        let zeros = [0i32; 16];
-        copy(block, &zeros);
-        return ReadList::Refused(13);
+    match read_into(true, &mut contexts, bytes, block, front) {
+        Ok(
+            Taken {
+                value: greatest,
+                next: x,
+            },
+        ) => {
+            let at = x.position;
+            if at.0 != bytes.len() {
+                clear(block);
+                return Err(13);
+            }
+            Ok(greatest)
+        }
+        Err(r) => Err(r.number),
     }
-    ReadList::Block(greatest)
 }

@@ -1,5 +1,5 @@
 -- The entry point: what its answers say, and its ways out. Assumes nothing.
-use Rattle.std.specs.Prelude.{ℕ, zero, suc, ◌≤◌, ◌<◌, ◌≡◌, refl, true, false, List, [], ◌++◌, ℤ, length, drop}
+use Rattle.std.specs.Prelude.{ℕ, zero, suc, ◌≤◌, ◌<◌, ◌≡◌, refl, true, false, List, [], ◌++◌, ℤ, length, drop, Result, Ok, Err}
 use Rattle.std.proofs.Common.{sym, ap, subst, ◌∙◌, length-take-le}
 use Rattle.bins.specs.Syn.{Written, write}
 use Rattle.cabac.specs.Numbers.{Answer, accepted, refused}
@@ -13,16 +13,17 @@ use Rattle.h264_block.specs.Writable.{Writable, ReadsAs}
 use Rattle.h264_block.proofs.BlockLaws.{refusal_none}
 use Rattle.h264_block.specs.EntryLaws.{block_passes, writes_short, writes_refused, writes_fits, writes_over}
 use Rattle.h264_block.proofs.Exact as exact
-use Rattle.h264_writer.specs.declared.entries.Written as code
-use Rattle.h264_writer.specs.declared.entries.Written.TheVariants as listed
 use Rattle.h264_pen.specs.LevelPuts.{BlockPut}
 
 -- ---- the answer with document 01's numbers
-abbrev pub written_says : code.Written → Answer ℕ
-written_says (listed.List n) = accepted n
-written_says (listed.Refused n) = refused n
+abbrev pub Listed : Type 0
+Listed = Result ℕ ℕ
 
-abbrev pub bins_written : code.Written → List ℕ → BinsWritten
+abbrev pub written_says : Listed → Answer ℕ
+written_says (Ok n) = accepted n
+written_says (Err n) = refused n
+
+abbrev pub bins_written : Listed → List ℕ → BinsWritten
 bins_written r room = record { answer = written_says r; room = room }
 
 -- what was written for w has come to its end
@@ -35,7 +36,7 @@ spelled w s s' h a l q =
 
 module _ (lent : List ℤ) (room : List ℕ) where
   -- 4
-  pub refused_first : length lent < 16 → bins_written (listed.Refused 4) room ≡ write_bins lent room
+  pub refused_first : length lent < 16 → bins_written (Err 4) room ≡ write_bins lent room
   refused_first h = sym (writes_short lent room h)
 
   module _ (long : 16 ≤ length lent) where
@@ -43,7 +44,7 @@ module _ (lent : List ℤ) (room : List ℕ) where
     pass = block_passes lent long
 
     -- 9, 8
-    pub refused_second : (n : ℕ) → n ≡ write_refusal (wanted_from lent) → (n ≡ 0 → ⊥) → bins_written (listed.Refused n) room ≡ write_bins lent room
+    pub refused_second : (n : ℕ) → n ≡ write_refusal (wanted_from lent) → (n ≡ 0 → ⊥) → bins_written (Err n) room ≡ write_bins lent room
     refused_second zero q h = absurd (h refl)
     refused_second (suc n) q h = sym (writes_refused lent room pass n (sym q))
 
@@ -63,14 +64,14 @@ module _ (lent : List ℤ) (room : List ℕ) where
         room_same = counted_same room list.0 room' pen counted
 
         -- 12
-        pub no_room : pen.over ≡ true → bins_written (listed.Refused 12) room' ≡ write_bins lent room
+        pub no_room : pen.over ≡ true → bins_written (Err 12) room' ≡ write_bins lent room
         no_room o =
-            ap (λ (z : List ℕ). bins_written (listed.Refused 12) z) room_same
+            ap (λ (z : List ℕ). bins_written (Err 12) z) room_same
             ∙ sym (writes_over lent room pass ok (wanted_from lent) list.0 list.2 (counted_long room list.0 room' pen counted o))
 
         -- and written
         pub all_written : pen.over ≡ false → (room'' : List ℕ) (pen' : Pen) → BlockPut (wanted_from lent) (sheet room' (pen_at 0 false true)) (sheet room'' pen')
-            → bins_written (listed.List pen'.at) room'' ≡ write_bins lent room
+            → bins_written (Ok pen'.at) room'' ≡ write_bins lent room
         all_written o room'' pen' d =
             let fits : length list.0 ≤ length room = counted_short room list.0 room' pen counted o in
             let e : sheet (list.0 ++ drop (length list.0) room) (pen_at (length list.0) false true) ≡ sheet room'' pen' =
@@ -80,5 +81,5 @@ module _ (lent : List ℤ) (room : List ℕ) where
             let n : length list.0 ≡ pen'.at = ap (λ (z : Sheet). z.pen.at) e in
             let r : list.0 ++ drop (length list.0) room ≡ room'' = ap (λ (z : Sheet). z.room) e in
             sym (writes_fits lent room pass ok (wanted_from lent) list.0 list.2 fits
-            ∙ ap (λ (k : ℕ). bins_written (listed.List k) (list.0 ++ drop (length list.0) room)) n
-            ∙ ap (λ (z : List ℕ). bins_written (listed.List pen'.at) z) r)
+            ∙ ap (λ (k : ℕ). bins_written (Ok k) (list.0 ++ drop (length list.0) room)) n
+            ∙ ap (λ (z : List ℕ). bins_written (Ok pen'.at) z) r)

@@ -5,6 +5,7 @@ use Rattle.std.proofs.Common.{◌∙◌, arith, add-one, drop_of_length-le, ltb-
 use mathlib.Core.List.{List, [], ◌∷◌}
 use Rattle.std.proofs.Math.ListN.{get_or, drop}
 use Rattle.std.proofs.Math.Seq.{drop-cons}
+use Rattle.std.specs.List.{list_any}
 use Rattle.std.specs.Int.Signed.{lt_z}
 use Rattle.std.proofs.lemmas.Bool.{lt-leb}
 use Rattle.trees.specs.Levels.{negative, in_range, greatest_of, all_zero, too_far}
@@ -22,6 +23,15 @@ far_above (pos m) q = go (ltb m 32768) refl
     go true e = let h = ltb-true m 32768 e in le-ltb 32767 m (omega arith) ∙ sym (ap not e)
     go false e = let h = ltb-false m 32768 e in lt-ltb 32767 m (omega arith) ∙ sym (ap not e)
 far_above (negsuc m) q = let h : m ≤ 32767 = ltb-false 32767 m q in sym (ap not (le-leb (suc m) 32768 (omega arith)))
+
+-- ---- of all
+abbrev pub is_far : ℤ → Bool
+is_far v = not (in_range 15 (negative v) (nat_abs v))
+
+pub any_far : (l : List ℤ) → list_any is_far l ≡ too_far 15 l
+unfolding too_far
+any_far [] = refl
+any_far (v ∷ l) = ap (λ (d : Bool). is_far v || d) (any_far l)
 
 -- ---- of all, at place i
 pub record Near (l : List ℤ) (i : ℕ) : Type 0 where

@@ -4,29 +4,22 @@ ghost use Rattle.h264_block.specs.Entries.{write_bins};
 ghost use Rattle.h264_writer.specs.EntriesPuts.{bins_written};
 ghost use Rattle.h264_writer.specs.Demand3.{Exactly};
 
-use crate::refusal::write_refusal;
+use crate::refusal::writable;
 use h264_pen::levels::put_block;
 use pen::room::Pen;
 
 // The length of the list, in bytes, or the number of the refusal.
-#[derive(Clone, Copy)]
-pub enum Written {
-    List(usize),
-    Refused(u32),
-}
+pub type Written = Result<usize, u32>;
 
 // The one list that reads as the first 16 places of the block. The room is counted out before anything is written.
 pub fn write_bins(block: &[i32], room: &mut [u8]) -> Written
     ensures { (bins_written result room.new ≡ write_bins block.now room.old) × Exactly block.now room.old result room.new }
 {
     if block.len() < 16 {
-        return Written::Refused(4);
+        return Err(4);
     }
     let levels = &block[..16];
-    let n = write_refusal(levels);
-    if n != 0 {
-        return Written::Refused(n);
-    }
+    writable(levels)?;
     let count = Pen {
         at: 0,
         over: false,
@@ -34,7 +27,7 @@ pub fn write_bins(block: &[i32], room: &mut [u8]) -> Written
     };
     let counted = put_block(room, count, levels);
     if counted.over {
-        return Written::Refused(12);
+        return Err(12);
     }
     let write = Pen {
         at: 0,
@@ -42,5 +35,5 @@ pub fn write_bins(block: &[i32], room: &mut [u8]) -> Written
         writing: true,
     };
     let written = put_block(room, write, levels);
-    Written::List(written.at)
+    Ok(written.at)
 }

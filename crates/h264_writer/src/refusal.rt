@@ -1,5 +1,5 @@
 // What a writer refuses of 16 levels, in document 01's order: 9, 8.
-ghost use Rattle.std.specs.Prelude.{◌≡◌, not, nat_abs};
+ghost use Rattle.std.specs.Prelude.{◌≡◌, ◌≢◌, not, nat_abs, MatchResult};
 ghost use Rattle.trees.specs.Levels.{negative, in_range, too_far};
 ghost use Rattle.h264_block.specs.Refusal.{write_refusal};
 
@@ -18,24 +18,17 @@ fn is_far(v: i32) -> bool
 fn too_far(levels: &[i32]) -> bool
     ensures { result ≡ too_far 15 levels.now }
 {
-    let mut i: usize = 0;
-    while i < levels.len() {
-        if is_far(levels[i]) {
-            return true;
-        }
-        i += 1;
-    }
-    false
+    levels.iter().any(|v| is_far(*v))
 }
 
-pub fn write_refusal(levels: &[i32]) -> u32
-    ensures { result ≡ write_refusal levels.now }
+pub fn writable(levels: &[i32]) -> Result<(), u32>
+    ensures { MatchResult result (λ _. write_refusal levels.now ≡ 0) (λ n. (n ≡ write_refusal levels.now) × (n ≢ 0)) }
 {
     if greatest(levels) == 0 {
-        return 9;
+        return Err(9);
     }
     if too_far(levels) {
-        return 8;
+        return Err(8);
     }
-    0
+    Ok(())
 }

@@ -2,7 +2,7 @@
 #![tactic(auto)]
 
 ghost use Rattle.std.specs.Prelude.{◌≡◌, ◌≤◌};
-ghost use Rattle.heat.specs.Heat.{grey_of, shade_of, mark_of};
+ghost use Rattle.heat.specs.Heat.{scaled, grey_of, shade_of, mark_of};
 
 fn wide(x: u32) -> u64
     ensures { (result ≡ x) × (result ≤ 4294967295) }
@@ -10,32 +10,33 @@ fn wide(x: u32) -> u64
     x as u64
 }
 
-// 0 for never to 255 for always, as in a PGM picture.
-pub fn grey(count: u32, blocks: u32) -> u64
-    ensures { result ≡ grey_of count blocks }
+// One of top + 1 steps: 0 for never, top for always.
+fn scaled(top: u64, count: u32, blocks: u32) -> u64
+    requires { top ≤ 255 }
+    ensures { result ≡ scaled top count blocks }
 {
     if blocks == 0 {
         return 0;
     }
-    let step = (wide(count) * 255 + wide(blocks - 1)) / wide(blocks);
-    if 255 < step {
-        return 255;
+    let step = (wide(count) * top + wide(blocks - 1)) / wide(blocks);
+    if top < step {
+        return top;
     }
     step
+}
+
+// 0 for never to 255 for always, as in a PGM picture.
+pub fn grey(count: u32, blocks: u32) -> u64
+    ensures { result ≡ grey_of count blocks }
+{
+    scaled(255, count, blocks)
 }
 
 // 0 for never to 9 for always.
 pub fn shade(count: u32, blocks: u32) -> u64
     ensures { result ≡ shade_of count blocks }
 {
-    if blocks == 0 {
-        return 0;
-    }
-    let step = (wide(count) * 9 + wide(blocks - 1)) / wide(blocks);
-    if 9 < step {
-        return 9;
-    }
-    step
+    scaled(9, count, blocks)
 }
 
 // The character of a shade.

@@ -4,7 +4,7 @@ ghost use Rattle.tables.specs.Decisions.{decisions};
 ghost use Rattle.hevc_residual.specs.Wanted.{area};
 ghost use Rattle.hevc_elements.specs.Agree.{Reads};
 ghost use Rattle.hevc_residual.specs.Limits.{Accepted, Statistics};
-ghost use Rattle.hevc_block.specs.BlockAgree.{headed_refusal, carried_refusal, found_at, SaysBlock};
+ghost use Rattle.hevc_block.specs.BlockAgree.{found_at, SaysBlock};
 
 use bins::state::{Interval, Refusal};
 use bins::tags::CONTEXTS;
@@ -14,32 +14,14 @@ use hevc_residual::answers::Found;
 use hevc_residual::params::Params;
 use hevc_sizes::sizes::grid;
 use hevc_stored::stored::told_of;
-use hevc_subblock::coeffs::Carried;
 use hevc_walk::walk::sub_blocks;
 use level_sizes::sizes::greatest;
 
+// What is found in a block, and the state behind it.
 #[derive(Clone, Copy)]
-pub enum Blocked {
-    Got(Found, Interval),
-    Refused(Refusal),
-}
-
-fn headed_refusal(h: Headed) -> Refusal
-    ensures { result ≡ headed_refusal h }
-{
-    match h {
-        Headed::Got(_, y) => Refusal { number: 0, at: y },
-        Headed::Refused(r) => r,
-    }
-}
-
-fn carried_refusal(c: Carried) -> Refusal
-    ensures { result ≡ carried_refusal c }
-{
-    match c {
-        Carried::Got(_, _, y) => Refusal { number: 0, at: y },
-        Carried::Refused(r) => r,
-    }
+pub struct Blocked {
+    pub found: Found,
+    pub next: Interval,
 }
 
 fn found_of(h: Head, column: u32, row: u32, greatest: u32) -> Found
@@ -65,17 +47,14 @@ pub fn read_block(
     p: Params,
     block: &mut [i32],
     x: Interval,
-) -> Blocked
+) -> Result<Blocked, Refusal>
     requires { Reads list bytes.now x contexts.old × (table.now ≡ decisions) × Accepted p × (block.old ≡ replicate (area p) (pos 0)) × Statistics stats.old }
     ensures { (length block.new ≡ area p) × Statistics stats.new × SaysBlock p list bytes.now x contexts.old stats.old result contexts.new block.new stats.new }
 {
-    let r = read_head(list, table, contexts, bytes, p, x);
-    let Headed::Got(h, x1) = r else {
-        return Blocked::Refused(headed_refusal(r));
-    };
+    let Headed { head, next } = read_head(list, table, contexts, bytes, p, x)?;
     let mut coded = [false; 64];
     let n = grid(p.log2);
-    let s = sub_blocks(
+    let carried = sub_blocks(
         list,
         table,
         contexts,
@@ -84,13 +63,13 @@ pub fn read_block(
         block,
         stats,
         p,
-        h,
-        x1,
-    );
-    let Carried::Got(c, k, x2) = s else {
-        return Blocked::Refused(carried_refusal(s));
-    };
-    let told = told_of(block, p, k);
-    let row = told.row;
-    Blocked::Got(found_of(h, c.column, row, told.greatest), x2)
+        head,
+        next,
+    )?;
+    let told = told_of(block, p, carried.stored);
+    let column = carried.carry.column;
+    Ok(Blocked {
+        found: found_of(head, column, told.row, told.greatest),
+        next: carried.next,
+    })
 }

@@ -8,7 +8,6 @@ ghost use Rattle.hevc_packer.specs.Promise.{ReadsBack};
 use bins::tags::CONTEXTS;
 use hevc_packer::entries::pack_checks;
 use hevc_reader::entries::read_bins;
-use hevc_residual::answers::ReadList;
 use hevc_residual::params::Params;
 use packer::list::{Packing, pack_from};
 
@@ -25,12 +24,12 @@ pub fn pack_bins(
     let mut block = [0i32; 1024];
     let a = pack_checks(contexts, stats, p, &block);
     if a != 0 {
-        return Packing::Refused(a);
+        return Err(a);
     }
     let mut st = *stats;
     let r = read_bins(list, &mut st, p, &mut block);
-    let ReadList::Block(_) = r else {
-        return Packing::Refused(13);
+    let Ok(_) = r else {
+        return Err(13);
     };
     pack_from(contexts, list, room)
 }

@@ -32,11 +32,9 @@ pub fn put_places(
     requires { Packs met × (met.count + below ≤ 16) × ((k : ℕ) → k < below → number_at numbers k < context_count) }
     ensures { Packs result.places × ((lv : ℕ → Wanted → ℤ) (w : Wanted) → Shows lv w levels.now → Wrote (places_s lv (number_at numbers) infer below (unpacked met)) (done (unpacked result.places)) w (sheet room.old pen) (sheet room.new result.pen)) }
 {
-    let mut k = below;
     let mut s = met;
     let mut y = pen;
-    while 0 < k {
-        k -= 1;
+    for k in (0..below).rev() {
         if inferred(k, infer, s.count) {
             return PutPlaces {
                 places: Places {

@@ -52,8 +52,25 @@ pub struct PutSub {
     pub pen: Pen,
 }
 
-// Sub-block number i of those up to number last, in which the last significant place is lastin. order is the scan of its places, coded which
-// sub-blocks were coded by now, w how many stand in a row, (xs, ys) where this one does, c what the one before it left.
+// What holds of all of a block's sub-blocks: its parameters and head, how many stand in a row, and that place lastin of number last is the last significant one.
+#[derive(Clone, Copy)]
+pub struct Settled {
+    pub p: Params,
+    pub h: Head,
+    pub w: u32,
+    pub last: u32,
+    pub lastin: u32,
+}
+
+// A sub-block by its number in the scan, and where it stands.
+#[derive(Clone, Copy)]
+pub struct Sub {
+    pub i: u32,
+    pub xs: u32,
+    pub ys: u32,
+}
+
+// Sub-block s of those up to the last. order is the scan of its places, coded which sub-blocks were coded by now, c what the one before it left.
 pub fn put_sub_block(
     room: &mut [u8],
     pen: Pen,
@@ -61,44 +78,48 @@ pub fn put_sub_block(
     order: &[[u8; 2]; 16],
     coded: &mut [bool],
     stats: &mut [u8; 4],
-    p: Params,
-    h: Head,
-    last: u32,
-    lastin: u32,
-    i: u32,
-    w: u32,
-    xs: u32,
-    ys: u32,
+    t: Settled,
+    s: Sub,
     c: Carry,
 ) -> PutSub
-    requires { (order.now ≡ pairs_of (inner_of p)) × (w ≡ width p) × Site p xs ys × (length coded.old ≡ width p * width p) × (length block.now ≡ area p) × AllInRange p block.now × Statistics stats.old × Carries c × (get_or (outer_of p) i (spot 0 0) ≡ spot xs ys) × (lastin ≤ 15) × (i ≤ last) × (p.log2 ≡ 2 → i ≡ last) }
-    ensures { (length coded.new ≡ width p * width p) × Statistics stats.new × Carries result.carry × GoesSub p h last lastin i block.now coded.old c stats.old coded.new result.carry stats.new (sheet room.old pen) (sheet room.new result.pen) }
+    requires { (order.now ≡ pairs_of (inner_of t.p)) × (t.w ≡ width t.p) × Site t.p s.xs s.ys × (length coded.old ≡ width t.p * width t.p) × (length block.now ≡ area t.p) × AllInRange t.p block.now × Statistics stats.old × Carries c × (get_or (outer_of t.p) s.i (spot 0 0) ≡ spot s.xs s.ys) × (t.lastin ≤ 15) × (s.i ≤ t.last) × (t.p.log2 ≡ 2 → s.i ≡ t.last) }
+    ensures { (length coded.new ≡ width t.p * width t.p) × Statistics stats.new × Carries result.carry × GoesSub t.p t.h t.last t.lastin s.i block.now coded.old c stats.old coded.new result.carry stats.new (sheet room.old pen) (sheet room.new result.pen) }
 {
-    let neighbours = neighbours_of(coded, w, xs, ys);
-    let middle = is_middle(i, last);
-    let flag = !is_bare(block, p, xs, ys);
+    let p = t.p;
+    let neighbours = neighbours_of(coded, t.w, s.xs, s.ys);
+    let middle = is_middle(s.i, t.last);
+    let flag = !is_bare(block, p, s.xs, s.ys);
     let number = flag_number(p.luma, neighbours);
     let y = put_coded_flag(room, pen, middle, number, flag);
     if !coded_now(middle, flag) {
         return PutSub { carry: c, pen: y };
     }
-    coded[(ys * w + xs) as usize] = true;
-    let levels = levels_of(block, order, p, xs, ys);
+    coded[(s.ys * t.w + s.xs) as usize] = true;
+    let levels = levels_of(block, order, p, s.xs, s.ys);
     let r = put_places(
         room,
         y,
         &levels,
-        sig_numbers(p, is_single(p, h.skip), neighbours, xs, ys),
+        sig_numbers(p, is_single(p, t.h.skip), neighbours, s.xs, s.ys),
         middle,
-        places_below(i, last, lastin),
-        met(i, last, lastin),
+        places_below(s.i, t.last, t.lastin),
+        met(s.i, t.last, t.lastin),
     );
-    let s = r.places;
+    let places = r.places;
     let z = r.pen;
-    if s.count == 0 {
+    if places.count == 0 {
         return PutSub { carry: c, pen: z };
     }
-    let q = put_coeffs(room, z, &levels, stats, p, h, ctxset_of(p, i, c), s);
+    let q = put_coeffs(
+        room,
+        z,
+        &levels,
+        stats,
+        p,
+        t.h,
+        ctxset_of(p, s.i, c),
+        places,
+    );
     let pen = q.pen;
     PutSub {
         carry: Carry {
@@ -128,20 +149,24 @@ pub fn put_sub_blocks(
     let w = width_of(p.log2);
     let last = number_in(p.log2 - 2, p.scan, h.x / 4, h.y / 4);
     let lastin = number_in(2, p.scan, h.x % 4, h.y % 4);
+    let t = Settled {
+        p,
+        h,
+        w,
+        last,
+        lastin,
+    };
     let mut c = Carry {
         carry: 1,
         first: true,
         column: 0,
     };
     let mut y = pen;
-    let mut i = last + 1;
-    while 0 < i {
-        i -= 1;
+    for i in (0..last + 1).rev() {
         let xs = outer[i as usize][0] as u32;
         let ys = outer[i as usize][1] as u32;
-        let r = put_sub_block(
-            room, y, block, order, coded, stats, p, h, last, lastin, i, w, xs, ys, c,
-        );
+        let s = Sub { i, xs, ys };
+        let r = put_sub_block(room, y, block, order, coded, stats, t, s, c);
         c = r.carry;
         y = r.pen;
     }

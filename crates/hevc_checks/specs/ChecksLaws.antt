@@ -1,5 +1,5 @@
 -- The checks and n·n as the code has them: one lemma for each way out. Assumes nothing.
-use Rattle.std.specs.Prelude.{ℕ, zero, suc, ◌+◌, ◌≤◌, ◌<◌, ◌≡◌, Bool, cond, ℤ, replicate, ltb}
+use Rattle.std.specs.Prelude.{ℕ, zero, suc, ◌+◌, ◌≤◌, ◌<◌, ◌≡◌, Bool, cond, ◌||◌, ℤ, replicate, ltb}
 use Rattle.std.proofs.Math.Path.{refl, sym, ap, subst}
 use Rattle.std.proofs.Common.{◌∙◌, arith, add-one}
 use Rattle.std.proofs.Math.Bool.{true, false}
@@ -57,19 +57,19 @@ module _ (m : ℕ) (l : List ℕ) where
   abbrev pub so_far : Bool → List ℕ → ℕ
   so_far above rest = cond above 3 0 or_else above_refusal m rest
 
-  above_next : (above over : Bool) (r : ℕ) → (cond above 3 0 or_else (cond over 3 0 or_else r)) ≡ (cond (cond over true above) 3 0 or_else r)
+  above_next : (above over : Bool) (r : ℕ) → (cond above 3 0 or_else (cond over 3 0 or_else r)) ≡ (cond (above || over) 3 0 or_else r)
   unfolding ◌or_else◌
   above_next true true r = refl
   above_next true false r = refl
   above_next false true r = refl
   above_next false false r = refl
 
-  pub above_on : (i : ℕ) (above now : Bool) → i < length l → now ≡ cond (ltb m (get_or l i 0)) true above → so_far above (drop i l) ≡ above_refusal m l → so_far now (drop (i + 1) l) ≡ above_refusal m l
+  pub above_on : (i : ℕ) (above : Bool) → i < length l → so_far above (drop i l) ≡ above_refusal m l → so_far (above || ltb m (get_or l i 0)) (drop (i + 1) l) ≡ above_refusal m l
   unfolding above_refusal
-  above_on i above now h k q =
+  above_on i above h q =
       let d : drop i l ≡ get_or l i 0 ∷ drop (suc i) l = drop-cons l i 0 h in
-      let s : so_far above (drop i l) ≡ so_far (cond (ltb m (get_or l i 0)) true above) (drop (suc i) l) = ap (so_far above) d ∙ above_next above (ltb m (get_or l i 0)) (above_refusal m (drop (suc i) l)) in
-      rw (add-one i, k) (sym s ∙ q)
+      let s : so_far above (drop i l) ≡ so_far (above || ltb m (get_or l i 0)) (drop (suc i) l) = ap (so_far above) d ∙ above_next above (ltb m (get_or l i 0)) (above_refusal m (drop (suc i) l)) in
+      rw (add-one i) (sym s ∙ q)
 
   pub above_starts : so_far false (drop 0 l) ≡ above_refusal m l
   unfolding ◌or_else◌

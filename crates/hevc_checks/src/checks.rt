@@ -1,5 +1,5 @@
 // The numbers of what is handed in with a block: 4 and 3 of parameters, contexts and statistics.
-ghost use Rattle.std.specs.Prelude.{◌≡◌, true, cond};
+ghost use Rattle.std.specs.Prelude.{◌≡◌};
 ghost use Rattle.hevc_residual.specs.Numbers.{parameter_refusal};
 ghost use Rattle.hevc_checks.specs.ChecksAgree.{above_refusal, bins_checks};
 
@@ -31,21 +31,13 @@ pub fn parameter_refusal(p: Params, block: &[i32]) -> u32
     0
 }
 
-fn either(a: bool, b: bool) -> bool
-    ensures { result ≡ cond b true a }
-{
-    if b { true } else { a }
-}
-
 // 3, of bytes that are at most `most`. None ends the loop, so that LLVM looks at several at once.
 pub fn above_refusal(bytes: &[u8], most: u8) -> u32
     ensures { result ≡ above_refusal most bytes.now }
 {
     let mut above = false;
-    let mut i: usize = 0;
-    while i < bytes.len() {
-        above = either(above, most < bytes[i]);
-        i += 1;
+    for byte in bytes {
+        above |= most < *byte;
     }
     if above { 3 } else { 0 }
 }

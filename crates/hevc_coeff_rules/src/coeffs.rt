@@ -32,23 +32,14 @@ pub fn greater2_number(luma: bool, ctxset: u32) -> usize
 fn is_escape(n: u32, mask: u32, greater2: bool) -> bool
     ensures { result ≡ escape_data_present n (ones mask) greater2 }
 {
-    if 8 < n {
-        return true;
-    }
-    if 1 < u32::count_ones(mask) {
-        return true;
-    }
-    greater2
+    8 < n || 1 < u32::count_ones(mask) || greater2
 }
 
 // Whether the range is aligned before signs and remainders.
 pub fn aligns(p: Params, n: u32, mask: u32, greater2: bool) -> bool
     ensures { result ≡ (p.aligning && escape_data_present n (ones mask) greater2) }
 {
-    if p.aligning {
-        return is_escape(n, mask, greater2);
-    }
-    false
+    p.aligning && is_escape(n, mask, greater2)
 }
 
 fn is_none(r: Rdpcm) -> bool
@@ -61,24 +52,11 @@ fn is_none(r: Rdpcm) -> bool
     }
 }
 
-fn implicit_skip(p: Params, skip: bool) -> bool
-    ensures { result ≡ (skip && p.implicit_rdpcm) }
-{
-    if skip { p.implicit_rdpcm } else { false }
-}
-
 // What rules hiding out in a block: lossless, explicit RDPCM, implicit RDPCM with transform skip.
 fn may_hide(p: Params, h: Head) -> bool
     ensures { result ≡ may_hide p h.skip h.rdpcm }
 {
-    if p.lossless {
-        return false;
-    }
-    if implicit_skip(p, h.skip) {
-        return false;
-    }
-    let r = h.rdpcm;
-    is_none(r)
+    !p.lossless && !(h.skip && p.implicit_rdpcm) && is_none(h.rdpcm)
 }
 
 // Highest place less lowest exceeds 3.
@@ -96,42 +74,26 @@ pub fn hidden(p: Params, h: Head, s: Places) -> u32
     requires { Packs s × (0 < s.count) }
     ensures { result ≡ bit_no (hides p h.skip h.rdpcm s) }
 {
-    if p.hiding {
-        if is_wide(s) {
-            if may_hide(p, h) {
-                return 1;
-            }
-        }
-    }
-    0
+    u32::from(p.hiding && is_wide(s) && may_hide(p, h))
 }
 
 pub fn eight(n: u32) -> u32
     ensures { result ≡ min 8 n }
 {
-    if 8 < n { 8 } else { n }
+    n.min(8)
 }
 
 fn skip_or_bypass(p: Params, skip: bool) -> usize
     ensures { result ≡ bit_no (skip_or_bypass p skip) }
 {
-    if skip {
-        return 1;
-    }
-    if p.lossless {
-        return 1;
-    }
-    0
+    usize::from(skip || p.lossless)
 }
 
 // sb_type (9.3.3.11): which of the statistics the block's remainders use.
 pub fn sb_type(p: Params, skip: bool) -> usize
     ensures { result ≡ 2 * bit_no p.luma + bit_no (skip_or_bypass p skip) }
 {
-    if p.luma {
-        return 2 + skip_or_bypass(p, skip);
-    }
-    skip_or_bypass(p, skip)
+    2 * usize::from(p.luma) + skip_or_bypass(p, skip)
 }
 
 // cRiceParam of a sub-block's first remainder (9.3.3.11).

@@ -1,9 +1,9 @@
 // A kept block: n·n levels, a record for each 4x4 sub-block (counts and sums), and one for the whole.
 ghost use Rattle.std.specs.Prelude.{◌≡◌, ◌+◌, ◌*◌, ◌^◌, ◌≤◌, ◌<◌, min, length};
 ghost use Rattle.hevc_summary.specs.Summary.{area, subs, cell, sub_of, count_in, sum_in, sub_most, Small};
-ghost use Rattle.hevc_summary.specs.Entries.{most, form_refusal, whole_from, fresh_counts, fresh_sums};
+ghost use Rattle.hevc_summary.specs.Entries.{form_refusal, whole_from, fresh_counts, fresh_sums};
 
-use hevc_sizes::sizes::area_of;
+use hevc_sizes::sizes::{area_of, grid};
 use hevc_summary::kept::{Form, Tally, Whole};
 use level_sizes::sizes::magnitude;
 
@@ -14,25 +14,7 @@ fn side_of(log2: u32) -> usize
     requires { (2 ≤ log2) × (log2 ≤ 5) }
     ensures { result ≡ 2 ^ log2 }
 {
-    match log2 {
-        2 => 4,
-        3 => 8,
-        4 => 16,
-        _ => 32,
-    }
-}
-
-// How many sub-blocks there are.
-fn subs_of(log2: u32) -> usize
-    requires { (2 ≤ log2) × (log2 ≤ 5) }
-    ensures { result ≡ subs log2 }
-{
-    match log2 {
-        2 => 1,
-        3 => 4,
-        4 => 16,
-        _ => 64,
-    }
+    1 << log2
 }
 
 // Where place k of sub-block s stands.
@@ -57,12 +39,6 @@ pub fn sub_of(log2: u32, place: usize) -> usize
 
 // ---- counting
 
-fn one_if(m: u32) -> u32
-    ensures { result ≡ min 1 m }
-{
-    if m == 0 { 0 } else { 1 }
-}
-
 // A fresh count of sub-block s.
 pub fn count_in(levels: &[i32], log2: u32, s: usize) -> Tally
     requires { (2 ≤ log2) × (log2 ≤ 5) × (s < subs log2) × (area log2 ≤ length levels.now) }
@@ -70,32 +46,13 @@ pub fn count_in(levels: &[i32], log2: u32, s: usize) -> Tally
 {
     let mut count: u32 = 0;
     let mut sum: u64 = 0;
-    let mut k: usize = 0;
-    while k < 16 {
+    for k in 0..16 {
         let at = cell(log2, s, k);
         let m = magnitude(levels[at]);
-        count += one_if(m);
+        count += m.min(1);
         sum += m as u64;
-        k += 1;
     }
     Tally { count, sum }
-}
-
-// A sum that stops at the greatest number.
-fn capped(a: u64, b: u64) -> u64
-    ensures { result ≡ min most (a + b) }
-{
-    if b <= 18446744073709551615 - a {
-        a + b
-    } else {
-        18446744073709551615
-    }
-}
-
-fn wide(x: u32) -> u64
-    ensures { (result ≡ x) × (result ≤ 4294967295) }
-{
-    x as u64
 }
 
 // Bit s of the map.
@@ -111,17 +68,15 @@ pub fn whole_of(counts: &[u32], sums: &[u64], log2: u32) -> Whole
     requires { (2 ≤ log2) × (log2 ≤ 5) × (64 ≤ length counts.now) × (64 ≤ length sums.now) }
     ensures { result ≡ whole_from log2 counts.now sums.now }
 {
-    let n = subs_of(log2);
+    let n = grid(log2);
     let mut count: u64 = 0;
     let mut sum: u64 = 0;
     let mut map: u64 = 0;
-    let mut s: usize = 0;
-    while s < n {
+    for s in 0..n {
         let c = counts[s];
-        count += wide(c);
-        sum = capped(sum, sums[s]);
+        count += u64::from(c);
+        sum = sum.saturating_add(sums[s]);
         map += bit_of(s, c);
-        s += 1;
     }
     Whole { count, sum, map }
 }
@@ -131,13 +86,11 @@ pub fn count_all(levels: &[i32], counts: &mut [u32; 64], sums: &mut [u64; 64], l
     requires { (2 ≤ log2) × (log2 ≤ 5) × (area log2 ≤ length levels.now) }
     ensures { (counts.new ≡ fresh_counts log2 levels.now counts.old) × (sums.new ≡ fresh_sums log2 levels.now sums.old) × (result ≡ whole_from log2 counts.new sums.new) × Small log2 levels.now × (64 ≤ length counts.new) × (64 ≤ length sums.new) }
 {
-    let n = subs_of(log2);
-    let mut s: usize = 0;
-    while s < n {
+    let n = grid(log2);
+    for s in 0..n {
         let t = count_in(levels, log2, s);
         counts[s] = t.count;
         sums[s] = t.sum;
-        s += 1;
     }
     whole_of(counts, sums, log2)
 }

@@ -1,7 +1,7 @@
 -- What a block's answer depends on (request (xii)): nothing behind the bits that it drew, and nothing before the position that it started at.
 -- First of the definition of the payload reader, then of the code's promise. Assumes nothing.
 use Prim.Native.Nat.{ℕ, zero, suc, ◌≤◌, ◌<◌}
-use Rattle.std.specs.Prelude.{◌≡◌, List, ℤ}
+use Rattle.std.specs.Prelude.{◌≡◌, List, ℤ, Result, Err, Ok}
 use Rattle.std.proofs.Math.Path.{refl, ap}
 use Rattle.std.proofs.Common.{sym, ◌∙◌, arith, le-leb}
 use Rattle.bins.specs.declared.state.Engine.{Engine}
@@ -19,8 +19,7 @@ use Rattle.hevc_residual.specs.Numbers.{parameter_refusal}
 use Rattle.hevc_residual.specs.Entries as entries
 use Rattle.hevc_residual.specs.Entries.{PayloadRead, FoundAt, read_by_engine, read_payload_by, read_payload}
 use Rattle.hevc_residual.specs.declared.answers.Found.{Found}
-use Rattle.hevc_residual.specs.declared.answers.Read.{Read}
-use Rattle.hevc_residual.specs.declared.answers.Read.TheVariants as read
+use Rattle.hevc_residual.specs.declared.answers.ReadBlock.{ReadBlock}
 use Rattle.hevc_residual.specs.Answers.{found_seen, payload_read, payload_checks}
 use Rattle.hevc_depends.specs.Reached.{reached_by, reached, drew_past}
 use Rattle.hevc_depends.specs.Depends.{Asked, Shown}
@@ -119,31 +118,31 @@ module _ (e : Engine) (contexts stats : List ℕ) (p : Params) (block : List ℤ
 found_one : (f g : Found) → found_seen f ≡ found_seen g → f ≡ g
 found_one f g q = ap (λ (z : entries.Found). record { skip = z.skip; rdpcm = z.rdpcm; column = z.column; row = z.row; greatest = z.greatest }) q
 
-told_one : (r s : Read) (cs₁ st₁ cs₂ st₂ : List ℕ) (b₁ b₂ : List ℤ) → payload_read r cs₁ st₁ b₁ ≡ payload_read s cs₂ st₂ b₂
+told_one : (r s : Result ReadBlock ℕ) (cs₁ st₁ cs₂ st₂ : List ℕ) (b₁ b₂ : List ℤ) → payload_read r cs₁ st₁ b₁ ≡ payload_read s cs₂ st₂ b₂
     → (r ≡ s) × (cs₁ ≡ cs₂) × (st₁ ≡ st₂) × (b₁ ≡ b₂)
-told_one (read.Block f x) (read.Block g y) cs₁ st₁ cs₂ st₂ b₁ b₂ q =
-    let a : ◌≡◌ {A = Answer FoundAt} (accepted (record { found = found_seen f; next = x })) (accepted (record { found = found_seen g; next = y })) = ap (λ (z : PayloadRead). z.answer) q in
-    let c : ◌≡◌ {A = FoundAt} (record { found = found_seen f; next = x }) (record { found = found_seen g; next = y }) = cc in
-    let d : f ≡ g = found_one f g (ap (λ (z : FoundAt). z.found) c) in
-    let e : x ≡ y = ap (λ (z : FoundAt). z.next) c in
-    (cc, ap (λ (z : PayloadRead). z.contexts) q, ap (λ (z : PayloadRead). z.stats) q, ap (λ (z : PayloadRead). z.block) q)
-told_one (read.Refused n) (read.Refused k) cs₁ st₁ cs₂ st₂ b₁ b₂ q =
+told_one (Ok f) (Ok g) cs₁ st₁ cs₂ st₂ b₁ b₂ q =
+    let a : ◌≡◌ {A = Answer FoundAt} (accepted (record { found = found_seen f.found; next = f.state })) (accepted (record { found = found_seen g.found; next = g.state })) = ap (λ (z : PayloadRead). z.answer) q in
+    let c : ◌≡◌ {A = FoundAt} (record { found = found_seen f.found; next = f.state }) (record { found = found_seen g.found; next = g.state }) = cc in
+    let d : f.found ≡ g.found = found_one f.found g.found (ap (λ (z : FoundAt). z.found) c) in
+    let e : f.state ≡ g.state = ap (λ (z : FoundAt). z.next) c in
+    ((λ i. Ok (record { found = d i; state = e i })), ap (λ (z : PayloadRead). z.contexts) q, ap (λ (z : PayloadRead). z.stats) q, ap (λ (z : PayloadRead). z.block) q)
+told_one (Err n) (Err k) cs₁ st₁ cs₂ st₂ b₁ b₂ q =
     let a : ◌≡◌ {A = Answer FoundAt} (refused n) (refused k) = ap (λ (z : PayloadRead). z.answer) q in
     let c : n ≡ k = cc in
-    (ap read.Refused c, ap (λ (z : PayloadRead). z.contexts) q, ap (λ (z : PayloadRead). z.stats) q, ap (λ (z : PayloadRead). z.block) q)
-told_one (read.Block f x) (read.Refused k) cs₁ st₁ cs₂ st₂ b₁ b₂ q =
-    let a : ◌≡◌ {A = Answer FoundAt} (accepted (record { found = found_seen f; next = x })) (refused k) = ap (λ (z : PayloadRead). z.answer) q in
+    (ap Err c, ap (λ (z : PayloadRead). z.contexts) q, ap (λ (z : PayloadRead). z.stats) q, ap (λ (z : PayloadRead). z.block) q)
+told_one (Ok f) (Err k) cs₁ st₁ cs₂ st₂ b₁ b₂ q =
+    let a : ◌≡◌ {A = Answer FoundAt} (accepted (record { found = found_seen f.found; next = f.state })) (refused k) = ap (λ (z : PayloadRead). z.answer) q in
     let z : ◌≡◌ {A = ℕ} 0 1 = cc in
     absurd (omega arith)
-told_one (read.Refused n) (read.Block g y) cs₁ st₁ cs₂ st₂ b₁ b₂ q =
-    let a : ◌≡◌ {A = Answer FoundAt} (refused n) (accepted (record { found = found_seen g; next = y })) = ap (λ (z : PayloadRead). z.answer) q in
+told_one (Err n) (Ok g) cs₁ st₁ cs₂ st₂ b₁ b₂ q =
+    let a : ◌≡◌ {A = Answer FoundAt} (refused n) (accepted (record { found = found_seen g.found; next = g.state })) = ap (λ (z : PayloadRead). z.answer) q in
     let z : ◌≡◌ {A = ℕ} 0 1 = cc in
     absurd (omega arith)
 
 module _ (e : Engine) (contexts stats : List ℕ) (p : Params) (block : List ℤ) where
   -- r and s are the answers of two calls, cs, st and b what each leaves in the contexts, the statistics and the block
   pub code_depends : (l m : List ℕ) → Asked e contexts stats p block l m
-      → (r s : Read) (cs₁ st₁ cs₂ st₂ : List ℕ) (b₁ b₂ : List ℤ)
+      → (r s : Result ReadBlock ℕ) (cs₁ st₁ cs₂ st₂ : List ℕ) (b₁ b₂ : List ℤ)
       → payload_read r cs₁ st₁ b₁ ≡ read_payload l e contexts stats p block → payload_read s cs₂ st₂ b₂ ≡ read_payload m e contexts stats p block
       → (r ≡ s) × (cs₁ ≡ cs₂) × (st₁ ≡ st₂) × (b₁ ≡ b₂)
   code_depends l m a r s cs₁ st₁ cs₂ st₂ b₁ b₂ u v =

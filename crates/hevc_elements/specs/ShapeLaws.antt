@@ -2,11 +2,9 @@
 use Rattle.std.specs.Prelude.{ℕ, ◌≡◌, refl, Bool, true, false, List}
 use Rattle.std.proofs.Common.{sym, subst, arith}
 use Rattle.bins.specs.declared.state.Interval.{Interval}
-use Rattle.bins.specs.declared.state.Step.{Step}
-use Rattle.bins.specs.declared.state.Step.TheVariants as step
 use Rattle.bins.specs.Syn.{done, bin, Out}
 use Rattle.bins.specs.Readers.{flag_if, ones_s, prefix_s}
-use Rattle.bins.specs.Sources.{Cursor, cursor, by_code}
+use Rattle.bins.specs.Sources.{Cursor, cursor, by_code, Step, got}
 use Rattle.hevc_residual.specs.Wanted.{Wanted}
 use Rattle.trees.specs.Agree as every
 use Rattle.tree_shapes.specs.ShapeLaws as plain
@@ -26,7 +24,7 @@ module _ (s : Bool) (l : List ℕ) (k : ℕ) (x : Interval) (cs : List ℕ) (r :
 
 -- ---- a flag that is not coded
 pub flag_none : (s : Bool) (l : List ℕ) (k : ℕ) (x : Interval) (cs : List ℕ) (coded : Bool) (w : Wanted → Bool) → coded ≡ false
-    → SaysFlag (step.Bin 0 x) cs (from s l (flag_if coded k w) x cs)
+    → SaysFlag (got 0 x) cs (from s l (flag_if coded k w) x cs)
 flag_none s l k x cs true w q = let z : ◌≡◌ {A = ℕ} 0 1 = cc in absurd (omega arith)
 flag_none s l k x cs false w q = (false, refl, run_done s l false x cs)
 

@@ -8,7 +8,7 @@ ghost use Rattle.bins.specs.Sources.{Readable};
 ghost use Rattle.bins.specs.Tags.{context_count};
 ghost use Rattle.hevc_elements.specs.Agree.{Reads, from, Says, SaysFlag};
 
-use bins::state::{Interval, Step};
+use bins::state::{Interval, Step, Taken};
 use bins::tags::CONTEXTS;
 
 // A bin with the context of a number.
@@ -42,7 +42,7 @@ pub fn flag_if(
     if coded {
         return context_bin(list, table, contexts, number, bytes, x);
     }
-    Step::Bin(0, x)
+    Ok(Taken { value: 0, next: x })
 }
 
 // Ones up to a greatest count, left at the first zero: bins with contexts base + (count shifted right by shift).
@@ -60,29 +60,18 @@ pub fn prefix(
     ensures { (w : ℕ → Wanted → Bool) → Says result contexts.new (from list bytes.now (prefix_s base shift most 0 w) x contexts.old) }
 {
     let mut y = x;
-    let mut g: u32 = 0;
-    let group = loop {
-        if g == most {
-            break g;
-        }
-        let s = context_bin(
-            list,
-            table,
-            contexts,
-            base + (g >> shift) as usize,
-            bytes,
-            y,
-        );
-        let Step::Bin(b, next) = s else {
-            return s;
-        };
-        y = next;
+    for g in 0..most {
+        let number = base + (g >> shift) as usize;
+        let Taken { value: b, next } = context_bin(list, table, contexts, number, bytes, y)?;
         if b == 0 {
-            break g;
+            return Ok(Taken { value: g, next });
         }
-        g += 1;
-    };
-    Step::Bin(group, y)
+        y = next;
+    }
+    Ok(Taken {
+        value: most,
+        next: y,
+    })
 }
 
 // The same with bypass bins.

@@ -1,5 +1,5 @@
 -- The head as its code reads it, call after call; and how great a group and its suffix are. Assumes nothing.
-use Rattle.std.specs.Prelude.{ℕ, suc, ◌+◌, ◌-◌, ◌*◌, ◌/◌, ◌^◌, ◌≤◌, ◌<◌, ◌≡◌, Bool, true, List, [], eqb}
+use Rattle.std.specs.Prelude.{ℕ, suc, ◌+◌, ◌-◌, ◌*◌, ◌/◌, ◌^◌, ◌≤◌, ◌<◌, ◌≡◌, Bool, true, List, [], eqb, Ok, Err}
 use Rattle.std.proofs.Math.Path.{refl}
 use Rattle.std.proofs.Common.{sym, ap, subst, ◌∙◌, arith}
 use Rattle.std.proofs.Math.Bool.{false}
@@ -7,12 +7,10 @@ use Rattle.std.proofs.Math.Dec.{leb}
 use Rattle.tables.specs.Table.{le_below}
 use Rattle.bins.specs.declared.state.Interval.{Interval}
 use Rattle.bins.specs.declared.state.Refusal.{Refusal}
-use Rattle.bins.specs.declared.state.Step.{Step}
-use Rattle.bins.specs.declared.state.Step.TheVariants as step
 use Rattle.bins.specs.Engine.{bit_no}
 use Rattle.bins.specs.Syn.{Syn, done, ◌>>=◌, Source, Out, run}
 use Rattle.bins.specs.Readers.{flag_if, bits_s, prefix_s}
-use Rattle.bins.specs.Sources.{Cursor, cursor, by_code, bits_from, Readable, step_of_bits, stopped, refused_at, refusal_of}
+use Rattle.bins.specs.Sources.{cursor, by_code, bits_from, Readable, step_of_bits, stopped, Step, got}
 use Rattle.bins.specs.Laws.{RefusedBy, then_run, run_bind, bind_ok, bind_no, map_out}
 use Rattle.bins.specs.CodeLaws.{bits_from_lem}
 use Rattle.bins.specs.StepLaws.{bits_took, bits_refused}
@@ -61,11 +59,8 @@ module _ {A C : Type 0} (s : Bool) (l : List ℕ) (whole : S A) (x : Interval) (
 
 -- what a call's answer r leads to
 pub record Answered (r : Step) (T : ℕ → Interval → Type 0) (N : Refusal → Type 0) : Type 0 where
-  pub ok : (v : ℕ) (z : Interval) → r ≡ step.Bin v z → T v z
-  pub no : (m n : Refusal) → r ≡ stopped m → n ≡ refusal_of r → N n
-
-pub refused_as : {A : Type 0} (o : Out Cursor A) (r : Step) (m n : Refusal) → RefusedBy m o → r ≡ stopped m → n ≡ refusal_of r → RefusedBy n o
-refused_as o r m n h q e = let d : m ≡ n = sym (e ∙ ap refusal_of q) in subst (λ k. RefusedBy k o) d h
+  pub ok : (v : ℕ) (z : Interval) → r ≡ got v z → T v z
+  pub no : (n : Refusal) → r ≡ stopped n → N n
 
 pub bit_eqb : (b : Bool) → eqb (bit_no b) 1 ≡ b
 bit_eqb true = refl
@@ -76,8 +71,8 @@ pub bits_says : (s : Bool) (l : List ℕ) (n : ℕ) (w : Wanted → ℕ) (y : In
 bits_says s l n w y ds r g e = go r refl
   where
     go : (r' : Step) → r ≡ r' → Says r' ds (from s l (bits_s n 0 w) y ds)
-    go (step.Bin v z) q = bits_from_lem s l n w y ds g ∙ ap (map_out (λ z. cursor z ds)) (bits_took (bits_from s l n y) r v z e q)
-    go (step.Refused m at) q = (ds, bits_from_lem s l n w y ds g ∙ ap (map_out (λ z. cursor z ds)) (bits_refused (bits_from s l n y) r (refused_at m at) e q))
+    go (Ok t) q = bits_from_lem s l n w y ds g ∙ ap (map_out (λ z. cursor z ds)) (bits_took (bits_from s l n y) r t.value t.next e q)
+    go (Err m) q = (ds, bits_from_lem s l n w y ds g ∙ ap (map_out (λ z. cursor z ds)) (bits_refused (bits_from s l n y) r m e q))
 
 module _ {A : Type 0} (s : Bool) (l : List ℕ) (whole : S A) (x : Interval) (cs : List ℕ) where
   -- a flag; the code's way to ask whether it is coded, and for its context
@@ -94,7 +89,7 @@ module _ {A : Type 0} (s : Bool) (l : List ℕ) (whole : S A) (x : Interval) (cs
               let d = flag_ok r v z es _ flag_says q in
               let b : eqb v 1 ≡ d.0 = ap (λ u. eqb u 1) d.1 ∙ bit_eqb d.0 in
               subst (λ b. Behind s l whole x cs (f b) z es) (sym b) (behind_ok s l whole x cs (flag_if coded k w) f y ds h d.0 z es d.2);
-          no = λ m n q u. refused_as _ r m n (behind_no s l whole x cs (flag_if coded k w) f y ds h m (flag_no_lem r m es _ flag_says q)) q u;
+          no = λ n q. behind_no s l whole x cs (flag_if coded k w) f y ds h n (flag_no_lem r n es _ flag_says q);
         }
 
   -- a number
@@ -103,7 +98,7 @@ module _ {A : Type 0} (s : Bool) (l : List ℕ) (whole : S A) (x : Interval) (cs
   behind_number t f y ds h r es e =
       record {
         ok = λ v z q. behind_ok s l whole x cs t f y ds h v z es (says_ok r v z es _ e q);
-        no = λ m n q u. refused_as _ r m n (behind_no s l whole x cs t f y ds h m (says_no r m es _ e q)) q u;
+        no = λ n q. behind_no s l whole x cs t f y ds h n (says_no r n es _ e q);
       }
 
   -- several bypass bins as a number; n is the code's count of them
@@ -227,7 +222,7 @@ module _ (p : Params) (s : Bool) (l : List ℕ) (x : Interval) (cs : List ℕ) w
 -- ---- how great a group and a suffix are
 pub group_few : (s : Bool) (l : List ℕ) (first : ℕ) (luma : Bool) (log2 : ℕ) (y : Interval) (ds : List ℕ) (r : Step) (es : List ℕ)
     → ((v : Wanted → ℕ) → Says r es (from s l (last_prefix first luma log2 v) y ds)) → 2 ≤ log2 → log2 ≤ 5
-    → (g : ℕ) (z : Interval) → r ≡ step.Bin g z → g ≤ 9
+    → (g : ℕ) (z : Interval) → r ≡ got g z → g ≤ 9
 group_few s l first luma log2 y ds r es e a b g z q =
     (each_run (by_code s l) (go luma) (cursor y ds) g (cursor z es) (says_ok r g z es _ (e (λ t. 0)) q)).1
   where
@@ -236,7 +231,7 @@ group_few s l first luma log2 y ds r es e a b g z q =
     go false = unfold last_prefix in prefix_few (first + 15) (log2 - 2) (2 * log2 - 1) 0 (λ g t. leb (least_of (suc g)) 0) 9 (omega arith)
 
 pub suffix_few : (s : Bool) (l : List ℕ) (n g : ℕ) (y : Interval) (r : Step) → Readable s l y → g ≤ 9 → n ≡ suffix_bits g
-    → r ≡ step_of_bits (bits_from s l n y) → (v : ℕ) (z : Interval) → r ≡ step.Bin v z → v < 8
+    → r ≡ step_of_bits (bits_from s l n y) → (v : ℕ) (z : Interval) → r ≡ got v z → v < 8
 suffix_few s l n g y r h k a e v z q =
     let m : n ≤ 3 = omega arith in
     let o : (0 + 1) * 2 ^ n ≤ 8 = le_below (λ i. (0 + 1) * 2 ^ i) (λ i. 8) 4 tt n (omega arith) in

@@ -7,7 +7,7 @@ ghost use Rattle.hevc_elements.specs.Agree.{Reads, from, Says};
 ghost use Rattle.hevc_head.specs.HeadAgree.{SaysHead};
 
 use bin_steps::seldom::decode_bypass_bits_if_any;
-use bins::state::{Interval, Refusal, Step, refusal_of};
+use bins::state::{Interval, Refusal, Step};
 use bins::tags::CONTEXTS;
 use hevc_elements::shapes::{flag_if, prefix};
 use hevc_head_rules::head::{
@@ -15,10 +15,11 @@ use hevc_head_rules::head::{
 };
 use hevc_residual::params::Params;
 
+// The head, and the state behind it.
 #[derive(Clone, Copy)]
-pub enum Headed {
-    Got(Head, Interval),
-    Refused(Refusal),
+pub struct Headed {
+    pub head: Head,
+    pub next: Interval,
 }
 
 // The prefix of one coordinate of the last position (9.3.4.2.3); its contexts begin at first, 0 for x and 18 for y.
@@ -51,61 +52,34 @@ pub fn read_head(
     bytes: &[u8],
     p: Params,
     x: Interval,
-) -> Headed
+) -> Result<Headed, Refusal>
     requires { Reads list bytes.now x contexts.old × (2 ≤ p.log2) × (p.log2 ≤ 5) × (table.now ≡ decisions) }
     ensures { SaysHead result contexts.new (from list bytes.now (head_s p (outer_of p) (inner_of p)) x contexts.old) }
 {
     let chroma = in_chroma(p.luma, 1);
-    let f = flag_if(skip_coded(p), list, table, contexts, 114 + chroma, bytes, x);
-    let Step::Bin(skip, x1) = f else {
-        return Headed::Refused(refusal_of(f));
-    };
-    let g = flag_if(
-        rdpcm_coded(p, skip == 1),
-        list,
-        table,
-        contexts,
-        116 + chroma,
-        bytes,
-        x1,
-    );
-    let Step::Bin(explicit, x2) = g else {
-        return Headed::Refused(refusal_of(g));
-    };
-    let h = flag_if(
-        explicit == 1,
+    let skip = flag_if(skip_coded(p), list, table, contexts, 114 + chroma, bytes, x)?;
+    let coded = rdpcm_coded(p, skip.value == 1);
+    let explicit = flag_if(coded, list, table, contexts, 116 + chroma, bytes, skip.next)?;
+    let dir = flag_if(
+        explicit.value == 1,
         list,
         table,
         contexts,
         118 + chroma,
         bytes,
-        x2,
-    );
-    let Step::Bin(dir, x3) = h else {
-        return Headed::Refused(refusal_of(h));
-    };
-    let i = last_prefix(list, table, contexts, 0, p.luma, p.log2, bytes, x3);
-    let Step::Bin(gx, x4) = i else {
-        return Headed::Refused(refusal_of(i));
-    };
-    let j = last_prefix(list, table, contexts, 18, p.luma, p.log2, bytes, x4);
-    let Step::Bin(gy, x5) = j else {
-        return Headed::Refused(refusal_of(j));
-    };
-    let k = decode_bypass_bits_if_any(list, bytes, x5, suffix_bits(gx));
-    let Step::Bin(sx, x6) = k else {
-        return Headed::Refused(refusal_of(k));
-    };
-    let l = decode_bypass_bits_if_any(list, bytes, x6, suffix_bits(gy));
-    let Step::Bin(sy, x7) = l else {
-        return Headed::Refused(refusal_of(l));
-    };
+        explicit.next,
+    )?;
+    let gx = last_prefix(list, table, contexts, 0, p.luma, p.log2, bytes, dir.next)?;
+    let gy = last_prefix(list, table, contexts, 18, p.luma, p.log2, bytes, gx.next)?;
+    let sx = decode_bypass_bits_if_any(list, bytes, gy.next, suffix_bits(gx.value))?;
+    let sy = decode_bypass_bits_if_any(list, bytes, sx.next, suffix_bits(gy.value))?;
     let head = placed(
-        skip == 1,
-        rdpcm_of(explicit, dir),
+        skip.value == 1,
+        rdpcm_of(explicit.value, dir.value),
         p.scan,
-        least(gx) + sx,
-        least(gy) + sy,
+        least(gx.value) + sx.value,
+        least(gy.value) + sy.value,
     );
-    Headed::Got(head, x7)
+    let next = sy.next;
+    Ok(Headed { head, next })
 }

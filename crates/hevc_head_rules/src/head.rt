@@ -29,7 +29,7 @@ pub fn least(g: u32) -> u32
 pub fn suffix_bits(g: u32) -> u32
     ensures { result ≡ suffix_bits g }
 {
-    if g < 2 { 0 } else { (g - 2) / 2 }
+    g.saturating_sub(2) / 2
 }
 
 pub fn rdpcm_of(flag: u32, dir: u32) -> Rdpcm
@@ -55,21 +55,13 @@ pub fn in_chroma(luma: bool, n: usize) -> usize
 pub fn skip_coded(p: Params) -> bool
     ensures { result ≡ skip_coded p }
 {
-    if p.skip_allowed { !p.lossless } else { false }
+    p.skip_allowed && !p.lossless
 }
 
 pub fn rdpcm_coded(p: Params, skip: bool) -> bool
     ensures { result ≡ rdpcm_coded p skip }
 {
-    if p.explicit_rdpcm {
-        if p.inter {
-            if skip {
-                return true;
-            }
-            return p.lossless;
-        }
-    }
-    false
+    p.explicit_rdpcm && p.inter && (skip || p.lossless)
 }
 
 // Scan 2 swaps the coordinates.

@@ -56,8 +56,8 @@ pub fn read_came(r: Read) -> bool
     ensures { result ≡ touched (read_says r) }
 {
     match r {
-        Read::Block(_, _) => true,
-        Read::Refused(n) => 6 < n,
+        Ok(_) => true,
+        Err(n) => 6 < n,
     }
 }
 
@@ -65,7 +65,7 @@ pub fn list_came(r: ReadList) -> bool
     ensures { result ≡ touched (list_says r) }
 {
     match r {
-        ReadList::Block(_) => true,
-        ReadList::Refused(n) => 6 < n,
+        Ok(_) => true,
+        Err(m) => 6 < m,
     }
 }

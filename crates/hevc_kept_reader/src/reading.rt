@@ -10,7 +10,6 @@ use bins::tags::CONTEXTS;
 use hevc_counts::counts::count_all;
 use hevc_kept_checks::checks::{block_refusal, list_came, read_came, read_refusal};
 use hevc_reader::entries::{read_bins, residual_coding};
-use hevc_residual::answers::{Read, ReadList};
 use hevc_residual::params::Params;
 use hevc_summary::kept::{Form, Whole};
 use hevc_summary::reading::{ListInto, ReadInto};
@@ -33,7 +32,7 @@ pub fn read_kept(
     let n = read_refusal(f, bytes, p, levels);
     if n != 0 {
         return ReadInto {
-            read: Read::Refused(n),
+            read: Err(n),
             whole,
         };
     }
@@ -61,7 +60,7 @@ pub fn read_kept_bins(
     let n = block_refusal(f, p, levels);
     if n != 0 {
         return ListInto {
-            read: ReadList::Refused(n),
+            read: Err(n),
             whole,
         };
     }

@@ -33,11 +33,7 @@ fn zero(levels: &mut [i32], n: usize)
     requires { n ≤ length levels.old }
     ensures { levels.new ≡ zeros n levels.old }
 {
-    let mut i: usize = 0;
-    while i < n {
-        levels[i] = 0;
-        i += 1;
-    }
+    levels[..n].fill(0);
 }
 
 // All levels zero.
@@ -66,11 +62,7 @@ fn copy(levels: &mut [i32], from: &[i32], n: usize)
     requires { (n ≤ length levels.old) × (n ≤ length from.now) }
     ensures { levels.new ≡ copied n from.now levels.old }
 {
-    let mut i: usize = 0;
-    while i < n {
-        levels[i] = from[i];
-        i += 1;
-    }
+    levels[..n].copy_from_slice(&from[..n]);
 }
 
 // 4

@@ -44,18 +44,6 @@ pub fn base_of(bins: u32, mask: u32, seen: bool, greater2: bool) -> Base
     }
 }
 
-fn less_one(n: u32) -> u32
-    ensures { result ≡ n - 1 }
-{
-    if n == 0 { 0 } else { n - 1 }
-}
-
-fn either(a: bool, b: bool) -> bool
-    ensures { result ≡ (a || b) }
-{
-    if a { true } else { b }
-}
-
 // Whether a greater1 was met, behind the next bin.
 fn seen_behind(bins: u32, mask: u32, seen: bool) -> bool
     ensures { result ≡ seen_now (unmask mask bins) seen }
@@ -74,12 +62,8 @@ fn stat_behind(p: Params, g: Going, more: bool, v: u32) -> u8
     requires { (g.stat ≤ 84) × (v ≤ 1073741824) }
     ensures { result ≡ cond (more && (p.persistent && not g.had)) (stat_next g.stat v) g.stat }
 {
-    if more {
-        if p.persistent {
-            if !g.had {
-                return stat_next(g.stat, v);
-            }
-        }
+    if more && p.persistent && !g.had {
+        return stat_next(g.stat, v);
     }
     g.stat
 }
@@ -103,11 +87,11 @@ pub fn behind(p: Params, g: Going, more: bool, v: u32, m: u32, sum: u32, column:
         places: g.places / 16,
         count: g.count - 1,
         mask: g.mask / 2,
-        bins: less_one(g.bins),
+        bins: g.bins.saturating_sub(1),
         seen: seen_behind(g.bins, g.mask, g.seen),
-        signs: less_one(g.signs),
+        signs: g.signs.saturating_sub(1),
         rice: rice_behind(p, g, more, m),
-        had: either(g.had, more),
+        had: g.had || more,
         sum,
         column: larger(g.column, column),
         stat: stat_behind(p, g, more, v),

@@ -1,12 +1,10 @@
 -- One level as the code reads it: one lemma for each way out; and the loop. Assumes nothing.
-use Rattle.std.specs.Prelude.{ℕ, ◌+◌, ◌-◌, ◌%◌, ◌≤◌, ◌<◌, min, ◌≡◌, refl, Bool, true, false, List, [], ℤ, length, set}
+use Rattle.std.specs.Prelude.{ℕ, ◌+◌, ◌-◌, ◌%◌, ◌≤◌, ◌<◌, min, ◌≡◌, refl, Bool, true, false, List, [], ℤ, length, set, Result, Ok, Err}
 use Rattle.std.proofs.Common.{sym, ap, ap₂, subst, ◌∙◌, arith, length-set}
 use Rattle.bins.specs.declared.state.Interval.{Interval}
 use Rattle.bins.specs.declared.state.Refusal.{Refusal}
-use Rattle.bins.specs.declared.state.Step.{Step}
-use Rattle.bins.specs.declared.state.Step.TheVariants as step
 use Rattle.bins.specs.Syn.{stop, ◌>>=◌, Out, run}
-use Rattle.bins.specs.Sources.{Cursor, cursor, by_code, Readable, stopped, refused_at, refusal_of}
+use Rattle.bins.specs.Sources.{Cursor, cursor, by_code, Readable, stopped, refused_at, Step, got}
 use Rattle.bins.specs.Laws.{RefusedBy, bind_ok, bind_no}
 use Rattle.hevc_residual.specs.declared.params.Params.{Params}
 use Rattle.hevc_residual.specs.Wanted.{Wanted, area}
@@ -19,7 +17,6 @@ use Rattle.hevc_elements.specs.ShapeLaws.{run_done}
 use Rattle.hevc_rules.specs.declared.levels.Going.{Going}
 use Rattle.hevc_stored.specs.declared.stored.Stored.{Stored}
 use Rattle.hevc_levels.specs.declared.levels.Leveled.{Leveled}
-use Rattle.hevc_levels.specs.declared.levels.Leveled.TheVariants as leveled
 use Rattle.hevc_magnitudes.specs.Most.{most}
 use Rattle.hevc_remainder.specs.RemainderAgree.{SaysCapped}
 use Rattle.hevc_rules.specs.LevelsAgree.{Site, Fine, Based, Lies, extra_s, behind_of, going_s}
@@ -29,19 +26,19 @@ use Rattle.hevc_rules.specs.BehindLaws.{range_most, range_out, fine_behind}
 use Rattle.hevc_rules.specs.LevelLaws.{wants, if_in, rest_s, going_turn, going_end}
 
 -- ---- a remainder's answer taken apart
-capped_ok : (r : Step) (v : ℕ) (y : Interval) (cs : List ℕ) (o : Out Cursor ℕ) → SaysCapped r cs o → r ≡ step.Bin v y
+capped_ok : (r : Step) (v : ℕ) (y : Interval) (cs : List ℕ) (o : Out Cursor ℕ) → SaysCapped r cs o → r ≡ got v y
     → (u : ℕ) × (v ≡ min u most) × (o ≡ Out.ok u (cursor y cs))
 capped_ok r v y cs o h q = subst (λ (z : Step). SaysCapped z cs o) q h
 
 capped_no : (r : Step) (n : Refusal) (cs : List ℕ) (o : Out Cursor ℕ) → SaysCapped r cs o → r ≡ stopped n → RefusedBy n o
 capped_no r n cs o h q = subst (λ (z : Step). SaysCapped z cs o) q h
 
-pub capped_most : (r : Step) (v : ℕ) (y : Interval) (cs : List ℕ) (o : Out Cursor ℕ) → SaysCapped r cs o → r ≡ step.Bin v y → v ≤ most
+pub capped_most : (r : Step) (v : ℕ) (y : Interval) (cs : List ℕ) (o : Out Cursor ℕ) → SaysCapped r cs o → r ≡ got v y → v ≤ most
 capped_most r v y cs o h q = let f = capped_ok r v y cs o h q in omega (arith, f.1)
 
 -- where none follows
 pub extra_none : (list : Bool) (l : List ℕ) (p : Params) (more : Bool) (rice : ℕ) (x : Interval) → more ≡ false → (w : Wanted → ℕ) (cs : List ℕ)
-    → SaysCapped (step.Bin 0 x) cs (from list l (extra_s p more rice w) x cs)
+    → SaysCapped (got 0 x) cs (from list l (extra_s p more rice w) x cs)
 extra_none list l p false rice x q w cs = (0, refl, run_done list l 0 x cs)
 extra_none list l p true rice x q w cs = let z : ◌≡◌ {A = ℕ} 0 1 = cc in absurd (omega arith)
 
@@ -67,14 +64,14 @@ module _ (p : Params) (xs ys : ℕ) (list : Bool) (l : List ℕ) (g2 : Bool) (si
       → whole lv cs ≡ from list l (extra_s p more g.rice (wants p (spot xs ys) lv g2 signs g levels level more) >>= rest_s p (spot xs ys) lv g2 signs g levels level more) x cs
   turned lv cs = ap (λ t. from list l t x cs) (going_turn p (spot xs ys) lv g2 signs g levels level more some base)
 
-  pub level_refused : (n k : Refusal) → r ≡ stopped n → k ≡ refusal_of r → (lv : ℕ → Wanted → ℤ) (cs : List ℕ)
-      → RefusedBy k (from list l (going_s p (spot xs ys) lv g2 signs g levels) x cs)
-  level_refused n k q kq lv cs =
+  pub level_refused : (n : Refusal) → r ≡ stopped n → (lv : ℕ → Wanted → ℤ) (cs : List ℕ)
+      → RefusedBy n (from list l (going_s p (spot xs ys) lv g2 signs g levels) x cs)
+  level_refused n q lv cs =
       let w = wants p (spot xs ys) lv g2 signs g levels level more in
       let f = bind_no (by_code list l) (extra_s p more g.rice w) (rest_s p (spot xs ys) lv g2 signs g levels level more) (cursor x cs) n (capped_no r n cs _ (e w cs) q) in
-      subst (λ (k : Refusal). RefusedBy k (whole lv cs)) (sym (kq ∙ ap refusal_of q)) (f.0, turned lv cs ∙ f.1)
+      (f.0, turned lv cs ∙ f.1)
 
-  module _ (v : ℕ) (y : Interval) (q : r ≡ step.Bin v y) where
+  module _ (v : ℕ) (y : Interval) (q : r ≡ got v y) where
     abbrev sign_now : Bool
     sign_now = negative_now g.signs signs (g.sum + (level + v))
 
@@ -107,7 +104,7 @@ module _ (p : Params) (xs ys : ℕ) (list : Bool) (l : List ℕ) (g2 : Bool) (si
         pub level_got : (column at : ℕ) → Lies p xs ys (g.places % 16) column at → (k : Going)
             → k ≡ behind_of p g more v (level + v) (g.sum + (level + v)) column → (levels' : List ℤ) → levels' ≡ set levels at (signed neg (level + v))
             → length levels ≡ area p → Readable list l x → (told : Stored)
-            → (length levels' ≡ area p) × SaysOne p (spot xs ys) list l g2 signs g x levels (leveled.Got k told y) levels'
+            → (length levels' ≡ area p) × SaysOne p (spot xs ys) list l g2 signs g x levels (Ok (record { going = k; stored = told; next = y })) levels'
         level_got column at i k kq levels' sq long readable told =
             let f₀ = capped_ok r v y [] _ (e (λ t. 0) []) q in
             let kc : k.count ≡ g.count - 1 = ap (λ (z : Going). z.count) kq in (
@@ -142,26 +139,22 @@ module _ (p : Params) (s : Spot) (list : Bool) (l : List ℕ) (g2 : Bool) (signs
   pub levels_begin : Fine p start → Readable list l x → length levels ≡ area p → Leveling start x levels
   levels_begin f r n = record { fine = f; readable = r; long = n; left = λ lv cs. refl }
 
-  module _ (g : Going) (y : Interval) (now : List ℤ) (h : Leveling g y now) (r : Leveled) (now' : List ℤ) (long : length now' ≡ area p)
+  module _ (g : Going) (y : Interval) (now : List ℤ) (h : Leveling g y now) (r : Result Leveled Refusal) (now' : List ℤ) (long : length now' ≡ area p)
       (e : SaysOne p s list l g2 signs g y now r now') where
-    pub levels_refused : (n : Refusal) → r ≡ leveled.Refused n → SaysAll p s list l g2 signs start x levels r now'
-    levels_refused n q =
-        let d : SaysOne p s list l g2 signs g y now (leveled.Refused n) now' = subst (λ (z : Leveled). SaysOne p s list l g2 signs g y now z now') q e in
-        subst (λ (z : Leveled). SaysAll p s list l g2 signs start x levels z now') (sym q)
-        (λ lv cs. ((d lv cs).0, h.left lv cs ∙ (d lv cs).1))
+    says_as : (r' : Result Leveled Refusal) → r ≡ r' → SaysOne p s list l g2 signs g y now r' now'
+    says_as r' q = subst (λ (z : Result Leveled Refusal). SaysOne p s list l g2 signs g y now z now') q e
 
-    pub levels_less : (k : Going) (u : Stored) (z : Interval) → r ≡ leveled.Got k u z → k.count < g.count
-    levels_less k u z q =
-        let d : SaysOne p s list l g2 signs g y now (leveled.Got k u z) now' = subst (λ (z : Leveled). SaysOne p s list l g2 signs g y now z now') q e in
-        omega (arith, d.1)
+    pub levels_refused : (n : Refusal) → r ≡ Err n → SaysAll p s list l g2 signs start x levels (Err n) now'
+    levels_refused n q = λ lv cs. let d = says_as (Err n) q lv cs in (d.0, h.left lv cs ∙ d.1)
 
-    pub levels_on : (k : Going) (u : Stored) (z : Interval) → r ≡ leveled.Got k u z → Leveling k z now'
-    levels_on k u z q =
-        let d : SaysOne p s list l g2 signs g y now (leveled.Got k u z) now' = subst (λ (z : Leveled). SaysOne p s list l g2 signs g y now z now') q e in
-        record { fine = d.0; readable = d.2; long = long; left = λ lv cs. h.left lv cs ∙ d.3 lv cs }
+    pub levels_less : (v : Leveled) → r ≡ Ok v → v.going.count + 1 ≡ g.count
+    levels_less v q = (says_as (Ok v) q).1
+
+    pub levels_on : (v : Leveled) → r ≡ Ok v → Leveling v.going v.next now'
+    levels_on v q = let d = says_as (Ok v) q in record { fine = d.0; readable = d.2; long = long; left = λ lv cs. h.left lv cs ∙ d.3 lv cs }
 
   pub levels_end : (g : Going) (y : Interval) (now : List ℤ) → Leveling g y now → g.count ≡ 0
-      → (u : Stored) → (length now ≡ area p) × SaysAll p s list l g2 signs start x levels (leveled.Got g u y) now
+      → (u : Stored) → (length now ≡ area p) × SaysAll p s list l g2 signs start x levels (Ok (record { going = g; stored = u; next = y })) now
   levels_end g y now h q u = (
     h.long,
     (

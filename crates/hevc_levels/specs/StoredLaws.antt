@@ -1,6 +1,6 @@
 -- What is told of the levels stored goes on with each of them. Assumes nothing.
 use Prim.Native.Nat.{ℕ, zero, suc, ◌+◌, ◌/◌, ◌^◌, ◌≤◌, ◌<◌, max}
-use Rattle.std.specs.Prelude.{◌≡◌, refl, Bool, true, false, ◌&&◌, ℤ, pos, nat_abs, length, get_or, set, replicate, eqb, leb}
+use Rattle.std.specs.Prelude.{◌≡◌, refl, Bool, true, false, ◌&&◌, ℤ, pos, nat_abs, length, get_or, set, replicate, eqb, leb, Result, Ok}
 use Rattle.std.proofs.Math.Path.{sym, ap, subst}
 use Rattle.std.proofs.Common.{◌∙◌, div-mul-le_self, le-div_iff_mul-le, pow_pos}
 use mathlib.Core.List.{List, [], ◌∷◌}
@@ -16,10 +16,8 @@ use Rattle.hevc_residual.specs.Extent.{reach_of, side, row_at, row_extent_of}
 use Rattle.hevc_residual.specs.ReachLaws.{reach_set, reach_zeros}
 use Rattle.hevc_residual.specs.Residual.{greatest_of}
 use Rattle.hevc_stored.specs.declared.stored.Stored.{Stored}
-use Rattle.bins.specs.declared.state.Interval.{Interval}
-use Rattle.hevc_rules.specs.declared.levels.Going.{Going}
+use Rattle.bins.specs.declared.state.Refusal.{Refusal}
 use Rattle.hevc_levels.specs.declared.levels.Leveled.{Leveled}
-use Rattle.hevc_levels.specs.declared.levels.Leveled.TheVariants as leveled
 use Rattle.hevc_stored.specs.StoredAgree.{stored_of, Keeps}
 use Rattle.hevc_levels.specs.KeptAgree.{KeepsBehind}
 
@@ -92,5 +90,5 @@ module _ (p : Params) (k : Stored) (l : List ℤ) (h : Keeps p k l) (at : ℕ) (
       }))
 
 -- ---- an answer taken apart
-pub keeps_leveled : (p : Params) (r : Leveled) (g : Going) (k : Stored) (y : Interval) (l : List ℤ) → KeepsBehind p r l → r ≡ leveled.Got g k y → Keeps p k l
-keeps_leveled p r g k y l h q = subst (λ (z : Leveled). KeepsBehind p z l) q h
+pub keeps_leveled : (p : Params) (r : Result Leveled Refusal) (v : Leveled) (l : List ℤ) → KeepsBehind p r l → r ≡ Ok v → Keeps p v.stored l
+keeps_leveled p r v l h q = subst (λ (z : Result Leveled Refusal). KeepsBehind p z l) q h

@@ -12,7 +12,7 @@ ghost use Rattle.hevc_levels.specs.LevelsAgree.{SaysOne, SaysAll};
 ghost use Rattle.hevc_stored.specs.StoredAgree.{Keeps};
 ghost use Rattle.hevc_levels.specs.KeptAgree.{KeepsBehind};
 
-use bins::state::{Interval, Refusal, Step, refusal_of};
+use bins::state::{Interval, Refusal, Step, Taken};
 use hevc_level_rules::levels::{base_of, behind, cell_of};
 use hevc_magnitudes::magnitudes::in_range;
 use hevc_remainder::remainder::remainder;
@@ -20,10 +20,12 @@ use hevc_residual::params::Params;
 use hevc_rules::levels::Going;
 use hevc_stored::stored::{Stored, is_free, is_negative, store, stored_behind};
 
+// How far the levels are, what is told of those stored, and the state behind them.
 #[derive(Clone, Copy)]
-pub enum Leveled {
-    Got(Going, Stored, Interval),
-    Refused(Refusal),
+pub struct Leveled {
+    pub going: Going,
+    pub stored: Stored,
+    pub next: Interval,
 }
 
 // A remainder where one follows.
@@ -34,7 +36,7 @@ fn extra(list: bool, p: Params, more: bool, rice: u32, bytes: &[u8], x: Interval
     if more {
         return remainder(list, p, rice, bytes, x);
     }
-    Step::Bin(0, x)
+    Ok(Taken { value: 0, next: x })
 }
 
 // One level: read, tested, stored at its place of sub-block (xs, ys).
@@ -52,27 +54,27 @@ pub fn one_level(
     g: Going,
     k: Stored,
     x: Interval,
-) -> Leveled
+) -> Result<Leveled, Refusal>
     requires { Readable list bytes.now x × (order.now ≡ pairs_of (inner_of p)) × Site p xs ys × (length block.old ≡ area p) × (t ≡ log2_transform_range p) × Fine p g × (0 < g.count) × Keeps p k block.old }
     ensures { (length block.new ≡ area p) × SaysOne p (spot xs ys) list bytes.now greater2 signs g x block.old result block.new × KeepsBehind p result block.new }
 {
     let d = base_of(g.bins, g.mask, g.seen, greater2);
-    let e = extra(list, p, d.more, g.rice, bytes, x);
-    let Step::Bin(v, y) = e else {
-        return Leveled::Refused(refusal_of(e));
-    };
+    let Taken { value: v, next: y } = extra(list, p, d.more, g.rice, bytes, x)?;
     let m = d.level + v;
     let sum = g.sum + m;
     let negative = is_negative(g.signs, signs, sum);
     if !in_range(t, negative, m) {
-        return Leveled::Refused(Refusal { number: 8, at: y });
+        return Err(Refusal { number: 8, at: y });
     }
     let cell = cell_of(order, p, xs, ys, (g.places % 16) as usize);
     let free = is_free(block, cell.at);
     store(block, cell.at, negative, m);
     let place = cell.at as u32;
-    let told = stored_behind(k, free, m, place);
-    Leveled::Got(behind(p, g, d.more, v, m, sum, cell.column), told, y)
+    Ok(Leveled {
+        going: behind(p, g, d.more, v, m, sum, cell.column),
+        stored: stored_behind(k, free, m, place),
+        next: y,
+    })
 }
 
 // All the levels left.
@@ -90,23 +92,28 @@ pub fn read_levels(
     start: Going,
     begun: Stored,
     x: Interval,
-) -> Leveled
+) -> Result<Leveled, Refusal>
     requires { Readable list bytes.now x × (order.now ≡ pairs_of (inner_of p)) × Site p xs ys × (length block.old ≡ area p) × (t ≡ log2_transform_range p) × Fine p start × Keeps p begun block.old }
     ensures { (length block.new ≡ area p) × SaysAll p (spot xs ys) list bytes.now greater2 signs start x block.old result block.new × KeepsBehind p result block.new }
 {
     let mut g = start;
     let mut k = begun;
     let mut y = x;
-    while 0 < g.count {
-        let r = one_level(
+    for _i in 0..start.count {
+        let Leveled {
+            going,
+            stored,
+            next,
+        } = one_level(
             list, bytes, order, block, p, t, xs, ys, greater2, signs, g, k, y,
-        );
-        let Leveled::Got(next, told, z) = r else {
-            return r;
-        };
-        g = next;
-        k = told;
-        y = z;
+        )?;
+        g = going;
+        k = stored;
+        y = next;
     }
-    Leveled::Got(g, k, y)
+    Ok(Leveled {
+        going: g,
+        stored: k,
+        next: y,
+    })
 }

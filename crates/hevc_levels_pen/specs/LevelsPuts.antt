@@ -1,6 +1,6 @@
 -- The loop over levels as its code puts it: one clause of the tree, and what is left to write. Assumes nothing.
-use Rattle.std.specs.Prelude.{ℕ, zero, suc, ◌+◌, ◌-◌, ◌/◌, ◌%◌, ◌^◌, ◌≤◌, ◌<◌, max, ◌≡◌, refl, Bool, true, false, not, ◌&&◌, ◌||◌, cond, List, [], ◌∷◌, ℤ, pos, nat_abs, length, get_or, set}
-use Rattle.std.proofs.Common.{sym, ap, ap₂, subst, ◌∙◌, arith, pow_mono, pow_pos}
+use Rattle.std.specs.Prelude.{ℕ, ◌+◌, ◌-◌, ◌%◌, ◌^◌, ◌≤◌, ◌<◌, max, ◌≡◌, refl, Bool, true, false, cond, List, ℤ, pos, nat_abs, length, get_or, set}
+use Rattle.std.proofs.Common.{sym, ap, subst, ◌∙◌, arith, pow_mono, pow_pos}
 use Rattle.bins.specs.Syn.{done, stop, ◌>>=◌}
 use Rattle.hevc_residual.specs.declared.params.Params.{Params}
 use Rattle.hevc_residual.specs.Scan.{Spot}
@@ -10,7 +10,7 @@ use Rattle.hevc_residual.specs.Remainder.{log2_transform_range, in_range, signed
 use Rattle.hevc_residual.specs.SubBlock.{Filled}
 use Rattle.hevc_rules.specs.declared.levels.Going.{Going}
 use Rattle.hevc_rules.specs.LevelsAgree.{Fine, Based, extra_s, behind_of, going_s}
-use Rattle.hevc_rules.specs.LevelLaws.{going_turn, going_end, wants, sign_of, place_of, rest_s, if_in, goes_on}
+use Rattle.hevc_rules.specs.LevelLaws.{going_turn, going_end, wants, sign_of, place_of, rest_s, if_in}
 use Rattle.hevc_rules.specs.DueLaws.{based_least, based_most}
 use Rattle.hevc_rules.specs.BehindLaws.{fine_behind}
 use Rattle.pen.specs.Sheet.{Sheet, Wrote}

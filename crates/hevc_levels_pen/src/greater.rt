@@ -54,13 +54,11 @@ pub fn put_greater1(
     let mut mask: u32 = 0;
     let mut carry: u32 = 1;
     let mut y = pen;
-    let mut j: u32 = 0;
-    while j < n {
+    for j in 0..n {
         let b = is_big(levels, place_at(s.packed, j));
         y = put_bin(room, y, base + carry as usize, b == 1);
         mask = mask + (b << j);
         carry = carry_next(b, carry);
-        j += 1;
     }
     PutGreater {
         mask,

@@ -20,13 +20,6 @@ pub struct PutLevel {
     pub pen: Pen,
 }
 
-// What a magnitude exceeds its base by.
-fn above(m: u32, base: u32) -> u32
-    ensures { result ≡ m - base }
-{
-    if m < base { 0 } else { m - base }
-}
-
 fn value_if(more: bool, v: u32) -> u32
     ensures { result ≡ cond more v 0 }
 {
@@ -59,7 +52,7 @@ pub fn put_level(
     let d = base_of(g.bins, g.mask, g.seen, greater2);
     let more = d.more;
     let k = (g.places % 16) as usize;
-    let rest = above(magnitude(levels[k]), d.level);
+    let rest = magnitude(levels[k]).saturating_sub(d.level);
     let y = put_extra(room, pen, p, more, g.rice, rest);
     let v = value_if(more, rest);
     let m = d.level + v;

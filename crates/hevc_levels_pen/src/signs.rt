@@ -23,10 +23,8 @@ pub fn signs_of(levels: &[i32; 16], s: Places, n: u32) -> u32
     ensures { (result < 2 ^ n) × ((lv : ℕ → Wanted → ℤ) (w : Wanted) → Shows lv w levels.now → result ≡ signs_no lv n (unpacked s) w 0) }
 {
     let mut v: u32 = 0;
-    let mut j: u32 = 0;
-    while j < n {
+    for j in 0..n {
         v = v * 2 + sign_at(levels, place_at(s.packed, j));
-        j += 1;
     }
     v
 }

@@ -1,7 +1,7 @@
 -- What the functions on magnitudes cite: T and the range, the Rice parameter behind a level, the statistic behind a remainder.
-use Rattle.std.specs.Prelude.{ℕ, ◌+◌, ◌-◌, ◌*◌, ◌/◌, ◌%◌, ◌^◌, ◌≤◌, ◌<◌, max, ◌≡◌, Bool, true, false, cond, ltb, leb}
+use Rattle.std.specs.Prelude.{ℕ, ◌+◌, ◌-◌, ◌*◌, ◌/◌, ◌%◌, ◌^◌, ◌≤◌, ◌<◌, max, min, ◌≡◌, refl, Bool, true, false, cond, ltb, leb}
 use Rattle.std.proofs.Common.{arith, shl_exact}
-use borrow.Author.Tests.{lt-ltb, le-ltb, le-leb, lt-leb, eq-eqb, ne_eqb}
+use borrow.Author.Tests.{lt-ltb, le-ltb, le-leb, lt-leb, eq-eqb, ne_eqb, ltb-false}
 use Rattle.hevc_residual.specs.declared.params.Params.{Params}
 use Rattle.hevc_residual.specs.Remainder.{log2_transform_range, in_range, rice_next, stat_next}
 use Rattle.hevc_magnitudes.specs.Escape.{escape_length}
@@ -50,9 +50,9 @@ module _ (p : Params) (rice m : ℕ) (h : rice ≤ 21) where
     unfolding rice_next
     rice_persists q = rw (lt-ltb (3 * 2 ^ rice) m (rw rice_shl at k), q)
 
-    pub rice_grows : p.persistent ≡ false → rice < 4 → rice + 1 ≡ rice_next p rice m
+    pub rice_grows : p.persistent ≡ false → min (rice + 1) 4 ≡ rice_next p rice m
     unfolding rice_next
-    rice_grows q g = rw (lt-ltb (3 * 2 ^ rice) m (rw rice_shl at k), q) (omega arith)
+    rice_grows q = rw (lt-ltb (3 * 2 ^ rice) m (rw rice_shl at k), q)
 
     pub rice_most : p.persistent ≡ false → 4 ≤ rice → 4 ≡ rice_next p rice m
     unfolding rice_next
@@ -71,11 +71,15 @@ module _ (s v : ℕ) (h : s ≤ 84) where
   stat_up k = rw (le-leb (3 * 2 ^ (s / 4)) v (rw three_shl at k))
 
   module _ (k : v < (3 * 2 ^ (s / 4)) % 4294967296) where
-    pub stat_down : 2 * v < (1 * 2 ^ (s / 4)) % 4294967296 → 0 < s → s - 1 ≡ stat_next s v
+    pub stat_down : 2 * v < (1 * 2 ^ (s / 4)) % 4294967296 → s - 1 ≡ stat_next s v
     unfolding stat_next
-    stat_down g z =
+    stat_down g =
         let g' : 2 * v < 1 * 2 ^ (s / 4) = rw one_shl at g in
-        rw (lt-leb (3 * 2 ^ (s / 4)) v (rw three_shl at k), lt-ltb (2 * v) (2 ^ (s / 4)) (omega arith), lt-ltb 0 s z)
+        rw (lt-leb (3 * 2 ^ (s / 4)) v (rw three_shl at k), lt-ltb (2 * v) (2 ^ (s / 4)) (omega arith)) (go (ltb 0 s) refl)
+      where
+        go : (b : Bool) → ltb 0 s ≡ b → s - 1 ≡ cond b (s - 1) s
+        go true q = refl
+        go false q = omega (arith, ltb-false 0 s q)
 
     pub stat_none : 2 * v < (1 * 2 ^ (s / 4)) % 4294967296 → s ≤ 0 → s ≡ stat_next s v
     unfolding stat_next

@@ -12,11 +12,10 @@ pub fn range_bits(p: Params) -> u32
     ensures { result ≡ log2_transform_range p }
 {
     if p.extended {
-        if 9 < p.depth {
-            return p.depth + 6;
-        }
+        (p.depth + 6).max(15)
+    } else {
+        15
     }
-    15
 }
 
 pub fn in_range(t: u32, negative: bool, m: u32) -> bool
@@ -37,7 +36,7 @@ pub fn rice_next(p: Params, rice: u32, m: u32) -> u32
     if p.persistent {
         return rice + 1;
     }
-    if rice < 4 { rice + 1 } else { 4 }
+    (rice + 1).min(4)
 }
 
 // The statistic behind the first remainder of a sub-block.
@@ -50,11 +49,10 @@ pub fn stat_next(s: u8, v: u32) -> u8
         return s + 1;
     }
     if 2 * v < 1 << q {
-        if 0 < s {
-            return s - 1;
-        }
+        s.saturating_sub(1)
+    } else {
+        s
     }
-    s
 }
 
 // The suffix of the limited form: T bits at the greatest prefix.

@@ -1,5 +1,5 @@
 -- The entry points' code: each way out is what the definitions say. Assumes nothing.
-use Rattle.std.specs.Prelude.{ℕ, ◌+◌, ◌*◌, ◌≤◌, ◌≡◌, List, [], ◌∷◌, length, ℤ}
+use Rattle.std.specs.Prelude.{ℕ, ◌+◌, ◌*◌, ◌≤◌, ◌≡◌, List, [], ◌∷◌, length, ℤ, Result, Ok, Err}
 use Rattle.std.proofs.Math.Path.{refl, sym, ap}
 use Rattle.std.proofs.Common.{◌∙◌, arith}
 use Rattle.bins.specs.Syn.{Out, run, by_list}
@@ -10,8 +10,6 @@ use Rattle.hevc_residual.specs.declared.params.Params.{Params}
 use Rattle.hevc_residual.specs.Residual.{Block, residual}
 use Rattle.hevc_residual.specs.Numbers.{parameter_refusal, contexts_refusal, statistics_refusal}
 use Rattle.hevc_residual.specs.Entries.{BinsRead, found_of, read_from_list, read_bins_by, read_bins}
-use Rattle.hevc_residual.specs.declared.answers.ReadList.{ReadList}
-use Rattle.hevc_residual.specs.declared.answers.ReadList.TheVariants as readlist
 use Rattle.hevc_residual.specs.declared.answers.Found as found
 use Rattle.hevc_residual.specs.Answers.{bins_read}
 use Rattle.hevc_checks.specs.ChecksAgree.{above_refusal}
@@ -20,13 +18,10 @@ use Rattle.hevc_bounds.specs.Pieces.{bins_most}
 use Rattle.hevc_cross.specs.Scale.{scale}
 use Rattle.hevc_cross.specs.Entries as cross
 use Rattle.hevc_cross.specs.EntryLaws.{reads_whole, reads_passed}
-use Rattle.hevc_scale.specs.declared.entries.ReadList as scalelist
-use Rattle.hevc_scale.specs.declared.entries.ReadList.TheVariants as scaled
 use Rattle.hevc_scale.specs.EntriesAgree as scales
 use Rattle.packing.specs.Packs.{entries_most}
 use Rattle.packing.specs.Entries.{BinsPacked, not_packed, pack_into, pack_list}
 use Rattle.packing.proofs.EntriesLaws.{tree_checked, tree_read, list_whole, list_left, list_no_lem}
-use Rattle.packer.specs.declared.list.Packing.TheVariants as packing
 use Rattle.packer.specs.IntoCode.{packing_says}
 use Rattle.hevc_packer.specs.Entries.{places, pack_checks, pack_bins, scale_checks, pack_scale}
 use Rattle.hevc_packer.specs.ReadAgain.{Passed, passed, list_few, scale_few, component_few}
@@ -66,7 +61,7 @@ read_no p stats n l = refl
 
 -- ---- a block's list
 module _ (contexts stats : List ℕ) (p : Params) (list room : List ℕ) where
-  pub refused_first : (n : ℕ) → n ≡ pack_checks contexts stats p → (n ≡ 0 → ⊥) → packing_says (packing.Refused n) room ≡ pack_bins contexts stats p list room
+  pub refused_first : (n : ℕ) → n ≡ pack_checks contexts stats p → (n ≡ 0 → ⊥) → packing_says (Err n) room ≡ pack_bins contexts stats p list room
   unfolding pack_bins
   refused_first n q h = sym (tree_checked (residual p stats) contexts list room n (pack_checks contexts stats p) q h)
 
@@ -82,12 +77,12 @@ module _ (contexts stats : List ℕ) (p : Params) (list room : List ℕ) where
         ap (λ n. read_bins_by n list stats p places) (sym (or_else_rest 0 (parameter_refusal p places) (statistics_refusal stats) k.params k.counts)) ∙ unfold read_bins_by in refl
 
     -- r is what the bin reader answered
-    module _ (r : ReadList) (st : List ℕ) (block' : List ℤ) (e : bins_read r st block' ≡ read_bins list stats p places) where
+    module _ (r : Result found.Found ℕ) (st : List ℕ) (block' : List ℤ) (e : bins_read r st block' ≡ read_bins list stats p places) where
       answers : (bins_read r st block').answer ≡ (read_from_list p stats places (run by_list (residual p stats) list)).answer
       answers = ap (λ (z : BinsRead). z.answer) (e ∙ reads)
 
-      pub refused_list : (m : ℕ) → r ≡ readlist.Refused m → packing_says (packing.Refused 13) room ≡ pack_bins contexts stats p list room
-      refused_list m q = sym (behind ∙ go (run by_list (residual p stats) list) (ap (λ (z : ReadList). (bins_read z st block').answer) (sym q) ∙ answers))
+      pub refused_list : (m : ℕ) → r ≡ Err m → packing_says (Err 13) room ≡ pack_bins contexts stats p list room
+      refused_list m q = sym (behind ∙ go (run by_list (residual p stats) list) (ap (λ (z : Result found.Found ℕ). (bins_read z st block').answer) (sym q) ∙ answers))
         where
           go : (o : Out (List ℕ) Block) → refused m ≡ (read_from_list p stats places o).answer → pack_list contexts list room o ≡ not_packed 13 room
           go (Out.ok b []) w = never m (found_of b) (w ∙ read_whole p stats b)
@@ -95,11 +90,11 @@ module _ (contexts stats : List ℕ) (p : Params) (list room : List ℕ) where
           go (Out.no n l) w = list_no_lem Block contexts list room n l
 
       -- it took the list to its end
-      module _ (f : found.Found) (q : r ≡ readlist.Block f) where
+      module _ (f : found.Found) (q : r ≡ Ok f) where
         took : (b : Block) × (run by_list (residual p stats) list ≡ Out.ok b [])
-        took = go (run by_list (residual p stats) list) refl (ap (λ (z : ReadList). (bins_read z st block').answer) (sym q) ∙ answers)
+        took = go (run by_list (residual p stats) list) refl (ap (λ (z : Result found.Found ℕ). (bins_read z st block').answer) (sym q) ∙ answers)
           where
-            go : (o : Out (List ℕ) Block) → run by_list (residual p stats) list ≡ o → (bins_read (readlist.Block f) st block').answer ≡ (read_from_list p stats places o).answer
+            go : (o : Out (List ℕ) Block) → run by_list (residual p stats) list ≡ o → (bins_read (Ok f) st block').answer ≡ (read_from_list p stats places o).answer
                 → (b : Block) × (run by_list (residual p stats) list ≡ Out.ok b [])
             go (Out.ok b []) u w = (b, u)
             go (Out.ok b (x ∷ l)) u w = never 13 _ (sym (w ∙ read_left p stats b x l))
@@ -115,12 +110,12 @@ module _ (contexts stats : List ℕ) (p : Params) (list room : List ℕ) where
 
 -- ---- a scale's list
 module _ (contexts : List ℕ) (c : ℕ) (list room : List ℕ) where
-  pub scale_first : (n : ℕ) → n ≡ cross.component_refusal c → (n ≡ 0 → ⊥) → packing_says (packing.Refused n) room ≡ pack_scale contexts c list room
+  pub scale_first : (n : ℕ) → n ≡ cross.component_refusal c → (n ≡ 0 → ⊥) → packing_says (Err n) room ≡ pack_scale contexts c list room
   unfolding pack_scale
   scale_first n q h =
       sym (tree_checked (scale c) contexts list room n (scale_checks contexts c) (or_else_first n (cross.component_refusal c) (contexts_refusal contexts) q h) h)
 
-  pub scale_second : 0 ≡ cross.component_refusal c → (n : ℕ) → n ≡ above_refusal 127 contexts → (n ≡ 0 → ⊥) → packing_says (packing.Refused n) room ≡ pack_scale contexts c list room
+  pub scale_second : 0 ≡ cross.component_refusal c → (n : ℕ) → n ≡ above_refusal 127 contexts → (n ≡ 0 → ⊥) → packing_says (Err n) room ≡ pack_scale contexts c list room
   unfolding pack_scale
   scale_second z n q h =
       sym (tree_checked (scale c) contexts list room n (scale_checks contexts c)
@@ -132,8 +127,8 @@ module _ (contexts : List ℕ) (c : ℕ) (list room : List ℕ) where
     scale_behind =
         tree_read (scale c) contexts list room (scale_checks contexts c) (or_else_rest 0 (cross.component_refusal c) (contexts_refusal contexts) z (y ∙ above_contexts contexts))
 
-    module _ (r : scalelist.ReadList) (e : scales.bins_read r ≡ cross.read_bins list c) where
-      pub scale_refused_list : (m : ℕ) → r ≡ scaled.Refused m → packing_says (packing.Refused 13) room ≡ pack_scale contexts c list room
+    module _ (r : scales.ReadList) (e : scales.bins_read r ≡ cross.read_bins list c) where
+      pub scale_refused_list : (m : ℕ) → r ≡ Err m → packing_says (Err 13) room ≡ pack_scale contexts c list room
       scale_refused_list m q = sym (scale_behind ∙ go (run by_list (scale c) list) refl)
         where
           go : (o : Out (List ℕ) ℤ) → run by_list (scale c) list ≡ o → pack_list contexts list room o ≡ not_packed 13 room
@@ -141,7 +136,7 @@ module _ (contexts : List ℕ) (c : ℕ) (list room : List ℕ) where
           go (Out.ok v (x ∷ l)) w = list_left ℤ contexts list room v x l
           go (Out.no n l) w = list_no_lem ℤ contexts list room n l
 
-      module _ (v : ℤ) (q : r ≡ scaled.Scale v) where
+      module _ (v : ℤ) (q : r ≡ Ok v) where
         scale_took : run by_list (scale c) list ≡ Out.ok v []
         scale_took = (reads_passed list c v (sym e ∙ ap scales.bins_read q)).1
 

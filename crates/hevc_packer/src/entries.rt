@@ -38,15 +38,15 @@ pub fn pack_scale(
 {
     let a = component_refusal(component);
     if a != 0 {
-        return Packing::Refused(a);
+        return Err(a);
     }
     let b = above_refusal(contexts, 127);
     if b != 0 {
-        return Packing::Refused(b);
+        return Err(b);
     }
     let r = read_scale_bins(list, component);
-    let hevc_scale::entries::ReadList::Scale(_) = r else {
-        return Packing::Refused(13);
+    let Ok(_) = r else {
+        return Err(13);
     };
     pack_from(contexts, list, room)
 }

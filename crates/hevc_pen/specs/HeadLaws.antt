@@ -1,7 +1,7 @@
 -- The head as its code puts it: the group of a position, then call after call. Assumes nothing.
-use Prim.Native.Nat.{ℕ, zero, suc, ◌+◌, ◌-◌, ◌*◌, ◌/◌, ◌%◌, ◌^◌, ◌≤◌, ◌<◌}
+use Prim.Native.Nat.{ℕ, suc, ◌+◌, ◌-◌, ◌*◌, ◌/◌, ◌%◌, ◌^◌, ◌≤◌, ◌<◌}
 use Rattle.std.specs.Prelude.{◌≡◌, refl, Bool, true, false, ◌&&◌, List, [], ◌∷◌, get_or, ltb, leb}
-use Rattle.std.proofs.Common.{sym, ◌∙◌, arith, add-one, pow_mono, lt-ltb, le-leb}
+use Rattle.std.proofs.Common.{sym, ◌∙◌, arith, pow_mono, lt-ltb, le-leb}
 use Rattle.std.proofs.Math.Path.{ap, subst}
 use Rattle.std.proofs.Math.Bool.{cond}
 use Rattle.std.proofs.Math.Dec.{eqb}
@@ -12,14 +12,14 @@ use Rattle.bins.specs.Readers.{flag_if, bits_s, prefix_s}
 use Rattle.hevc_residual.specs.declared.params.Params.{Params}
 use Rattle.hevc_residual.specs.declared.params.Rdpcm.{Rdpcm}
 use Rattle.hevc_residual.specs.declared.params.Rdpcm.TheVariants as of_rdpcm
-use Rattle.hevc_residual.specs.Layout.{at_last_x, at_last_y, at_skip, at_rdpcm_flag, at_rdpcm_dir, in_chroma}
+use Rattle.hevc_residual.specs.Layout.{at_last_x, at_last_y, in_chroma}
 use Rattle.hevc_residual.specs.Wanted.{Wanted, S, area, outer_of, inner_of}
 use Rattle.hevc_residual.specs.Scan.{Spot, spot}
 use Rattle.hevc_residual.specs.Head.{Head, head_s, groups_s, last_prefix, last_wanted, least_of, suffix_bits, greatest_group, rdpcm_flag, rdpcm_dir, rdpcm_of, skip_coded, rdpcm_coded}
 use Rattle.hevc_head_rules.specs.HeadOf.{placed_at}
 use Rattle.hevc_head_rules.specs.HeadParts.{behind_skip, behind_flag, behind_dir, behind_groups, behind_suffix_x, wanted_x, wanted_y, last_luma, last_chroma}
 use Rattle.pen.specs.Sheet.{Sheet, Wrote, Counts}
-use Rattle.pen.specs.SheetLaws.{wrote_none, wrote_on, wrote_then, wrote_call}
+use Rattle.pen.specs.SheetLaws.{wrote_none, wrote_then, wrote_call}
 
 -- ---- the group of a position below 32
 unfoldable pub groups : List ℕ

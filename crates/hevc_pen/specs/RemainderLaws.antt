@@ -1,11 +1,11 @@
 -- Remainders as their code puts them: how long a prefix is, and that a suffix holds the rest. Assumes nothing.
-use Rattle.std.specs.Prelude.{ℕ, zero, suc, ◌+◌, ◌-◌, ◌*◌, ◌/◌, ◌%◌, ◌^◌, ◌≤◌, ◌<◌, ◌≡◌, refl, Bool, true, false, ◌||◌, cond, eqb}
-use Rattle.std.proofs.Common.{sym, ap, subst, ◌∙◌, arith, add-one, pow-suc, add-mul, div-mul-le_self, pow_mono, pow_pos, pow-add, shl_lt, ltb-true, ltb-false, lt-ltb, le-ltb, le-leb, eq-eqb, ne_eqb}
+use Rattle.std.specs.Prelude.{ℕ, suc, ◌+◌, ◌-◌, ◌*◌, ◌/◌, ◌%◌, ◌^◌, ◌≤◌, ◌<◌, ◌≡◌, refl, Bool, true, false, ◌||◌, cond, eqb}
+use Rattle.std.proofs.Common.{sym, ap, subst, ◌∙◌, arith, div-mul-le_self, pow_mono, pow_pos, lt-ltb, le-ltb, le-leb}
 use Rattle.std.proofs.Math.Nat.{mul-le-mul_right, mod-lt}
-use Rattle.std.proofs.Math.Pow.{pow-lt, split}
+use Rattle.std.proofs.Math.Pow.{split}
 use Rattle.std.proofs.Math.Dec.{ltb, leb}
 use Rattle.std.proofs.lemmas.Bool.{eqb-false, lt-leb}
-use Rattle.bins.specs.Syn.{done, stop, ◌>>=◌}
+use Rattle.bins.specs.Syn.{done, ◌>>=◌}
 use Rattle.bins.specs.Readers.{bits_s, ones_s}
 use Rattle.trees.specs.Pick.{pick}
 use Rattle.hevc_residual.specs.declared.params.Params.{Params}

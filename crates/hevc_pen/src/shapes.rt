@@ -34,10 +34,8 @@ pub fn put_prefix(room: &mut [u8], pen: Pen, base: usize, shift: u32, n: u32, mo
     ensures { (want : ℕ → Wanted → Bool) (w : Wanted) → Counts want w n most → Wrote (prefix_s base shift most 0 want) (done n) w (sheet room.old pen) (sheet room.new result) }
 {
     let mut y = pen;
-    let mut g: u32 = 0;
-    while g < n {
+    for g in 0..n {
         y = put_bin(room, y, base + (g >> shift) as usize, true);
-        g += 1;
     }
     if n < most {
         return put_bin(room, y, base + (n >> shift) as usize, false);

@@ -100,10 +100,5 @@ pub fn number_at(s: SigNumbers, k: u32) -> usize
 pub fn inferred(k: u32, infer: bool, count: u32) -> bool
     ensures { result ≡ (eqb k 0 && (infer && eqb count 0)) }
 {
-    if k == 0 {
-        if infer {
-            return count == 0;
-        }
-    }
-    false
+    k == 0 && infer && count == 0
 }

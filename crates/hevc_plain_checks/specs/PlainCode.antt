@@ -1,6 +1,6 @@
 -- The plain entry points' ways out. Assumes nothing.
 use Prim.Native.Nat.{ℕ, zero, suc, ◌≤◌, ◌<◌}
-use Rattle.std.specs.Prelude.{◌≡◌, refl, List, [], ◌∷◌, Bool, true, false, not, ◌&&◌, ◌||◌, cond, ltb, eqb, ℤ}
+use Rattle.std.specs.Prelude.{◌≡◌, refl, List, [], ◌∷◌, Bool, true, false, not, ◌&&◌, ◌||◌, cond, ltb, eqb, ℤ, Err}
 use Rattle.std.proofs.Math.Path.{sym, ap}
 use Rattle.std.proofs.Common.{◌∙◌, arith}
 use Rattle.std.proofs.Math.Dec.{leb}
@@ -14,11 +14,8 @@ use Rattle.hevc_residual.specs.Wanted.{Wanted}
 use Rattle.hevc_residual.specs.Refusal.{write_refusal}
 use Rattle.hevc_residual.specs.Numbers.{parameter_refusal, contexts_refusal, statistics_refusal}
 use Rattle.hevc_residual.specs.Entries.{PayloadRead, read_payload_by, read_payload, BinsRead, read_bins_by, read_bins, BinsWritten, wanted_from, write_bins_by, write_bins}
-use Rattle.hevc_residual.specs.declared.answers.Read.TheVariants as read
-use Rattle.hevc_residual.specs.declared.answers.ReadList.TheVariants as readlist
 use Rattle.hevc_residual.specs.Answers.{payload_read, bins_read}
 use Rattle.hevc_checks.specs.ChecksAgree.{above_refusal}
-use Rattle.hevc_residual.specs.declared.answers.Written.TheVariants as listed
 use Rattle.hevc_residual.specs.Answers.{bins_written}
 use Rattle.hevc_plain.specs.Plain.{plain_params, zeros, plain_refusal, read_plain, read_plain_bins, write_plain}
 use Rattle.hevc_plain.specs.PlainLaws.{plain_full, plain_full_bins, plain_full_write}
@@ -140,16 +137,16 @@ module _ (l : List ℕ) (e : Engine) (contexts stats : List ℕ) (p : Params) (b
   abbrev rest : ℕ
   rest = state_refusal l e or_else contexts_refusal contexts or_else statistics_refusal stats or_else ended_refusal e
 
-  refused_by_lem : (n k : ℕ) → n ≡ k → (n ≡ 0 → ⊥) → payload_read (read.Refused n) contexts stats block ≡ read_payload_by k l e contexts stats p block
+  refused_by_lem : (n k : ℕ) → n ≡ k → (n ≡ 0 → ⊥) → payload_read (Err n) contexts stats block ≡ read_payload_by k l e contexts stats p block
   unfolding read_payload_by
   refused_by_lem n zero q h = absurd (h q)
-  refused_by_lem n (suc k) q h = ap (λ m. payload_read (read.Refused m) contexts stats block) q
+  refused_by_lem n (suc k) q h = ap (λ m. payload_read (Err m) contexts stats block) q
 
-  pub payload_first : (n : ℕ) → n ≡ payload_refusal l → (n ≡ 0 → ⊥) → payload_read (read.Refused n) contexts stats block ≡ read_plain l e contexts stats p block
+  pub payload_first : (n : ℕ) → n ≡ payload_refusal l → (n ≡ 0 → ⊥) → payload_read (Err n) contexts stats block ≡ read_plain l e contexts stats p block
   unfolding read_plain
   payload_first n q h = refused_by_lem n _ (or_else_first n (payload_refusal l) _ q h) h
 
-  pub payload_second : 0 ≡ payload_refusal l → (n : ℕ) → n ≡ plain_checks stats p block → (n ≡ 0 → ⊥) → payload_read (read.Refused n) contexts stats block ≡ read_plain l e contexts stats p block
+  pub payload_second : 0 ≡ payload_refusal l → (n : ℕ) → n ≡ plain_checks stats p block → (n ≡ 0 → ⊥) → payload_read (Err n) contexts stats block ≡ read_plain l e contexts stats p block
   unfolding read_plain
   payload_second z n q h =
       refused_by_lem n _ (or_else_rest n (payload_refusal l) _ z (or_else_first n (parameter_refusal p block or_else plain_refusal p stats) rest q h ∙ or_else_assoc (parameter_refusal p block) (plain_refusal p stats) rest)) h
@@ -158,14 +155,14 @@ module _ (l : List ℕ) (e : Engine) (contexts stats : List ℕ) (p : Params) (b
   payload_left z r q = q ∙ sym (plain_full l e contexts stats p block (or_else_zero (parameter_refusal p block) (plain_refusal p stats) z).1)
 
 module _ (bins stats : List ℕ) (p : Params) (block : List ℤ) where
-  pub bins_first : (n : ℕ) → n ≡ plain_checks stats p block → (n ≡ 0 → ⊥) → bins_read (readlist.Refused n) stats block ≡ read_plain_bins bins stats p block
+  pub bins_first : (n : ℕ) → n ≡ plain_checks stats p block → (n ≡ 0 → ⊥) → bins_read (Err n) stats block ≡ read_plain_bins bins stats p block
   unfolding read_plain_bins
   bins_first n q h =
       go _ (or_else_first n (parameter_refusal p block or_else plain_refusal p stats) (statistics_refusal stats) q h ∙ or_else_assoc (parameter_refusal p block) (plain_refusal p stats) (statistics_refusal stats))
     where
-      go : (k : ℕ) → n ≡ k → bins_read (readlist.Refused n) stats block ≡ read_bins_by k bins stats p block
+      go : (k : ℕ) → n ≡ k → bins_read (Err n) stats block ≡ read_bins_by k bins stats p block
       go zero u = absurd (h u)
-      go (suc k) u = unfold read_bins_by in ap (λ m. bins_read (readlist.Refused m) stats block) u
+      go (suc k) u = unfold read_bins_by in ap (λ m. bins_read (Err m) stats block) u
 
   pub bins_left : 0 ≡ plain_checks stats p block → (r : BinsRead) → r ≡ read_bins bins stats p block → r ≡ read_plain_bins bins stats p block
   bins_left z r q = q ∙ sym (plain_full_bins bins stats p block (or_else_zero (parameter_refusal p block) (plain_refusal p stats) z).1)
@@ -174,15 +171,15 @@ module _ (p : Params) (stats : List ℕ) (block : List ℤ) (skip : Bool) (rdpcm
   abbrev w : Wanted
   w = wanted_from p block skip rdpcm
 
-  pub write_first : (n : ℕ) → n ≡ plain_checks stats p block → (n ≡ 0 → ⊥) → bins_written (listed.Refused n) stats room ≡ write_plain p stats block skip rdpcm room
+  pub write_first : (n : ℕ) → n ≡ plain_checks stats p block → (n ≡ 0 → ⊥) → bins_written (Err n) stats room ≡ write_plain p stats block skip rdpcm room
   unfolding write_plain
   write_first n q h =
       go _ (or_else_first n (parameter_refusal p block or_else plain_refusal p stats) (statistics_refusal stats or_else write_refusal p w) q h
       ∙ or_else_assoc (parameter_refusal p block) (plain_refusal p stats) (statistics_refusal stats or_else write_refusal p w))
     where
-      go : (k : ℕ) → n ≡ k → bins_written (listed.Refused n) stats room ≡ write_bins_by k p stats w room
+      go : (k : ℕ) → n ≡ k → bins_written (Err n) stats room ≡ write_bins_by k p stats w room
       go zero u = absurd (h u)
-      go (suc k) u = unfold write_bins_by in ap (λ m. bins_written (listed.Refused m) stats room) u
+      go (suc k) u = unfold write_bins_by in ap (λ m. bins_written (Err m) stats room) u
 
   pub write_left_lem : 0 ≡ plain_checks stats p block → (r : BinsWritten) → r ≡ write_bins p stats block skip rdpcm room → r ≡ write_plain p stats block skip rdpcm room
   write_left_lem z r q = q ∙ sym (plain_full_write p stats block skip rdpcm room (or_else_zero (parameter_refusal p block) (plain_refusal p stats) z).1)

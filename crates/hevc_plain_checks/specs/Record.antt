@@ -1,5 +1,5 @@
 -- A plain record is made from what is left to say: what is made is plain, and every plain record is made so. Assumes nothing.
-use Rattle.std.specs.Prelude.{ℕ, zero, suc, ◌≤◌, ◌<◌, Bool, ◌&&◌, cond, leb, replicate, ℤ}
+use Rattle.std.specs.Prelude.{ℕ, zero, suc, ◌≤◌, ◌<◌, Bool, ◌&&◌, cond, leb, replicate, ℤ, Result, Ok, Err}
 use Rattle.std.proofs.Math.Path.{◌≡◌, refl, subst}
 use Rattle.std.proofs.Common.{sym, ap, ◌∙◌, arith}
 use mathlib.Core.List.{List}
@@ -12,14 +12,12 @@ use Rattle.hevc_residual.specs.declared.params.Params.{Params}
 use Rattle.hevc_residual.specs.Wanted.{area}
 use Rattle.hevc_residual.specs.Numbers.{within_limits, parameter_refusal}
 use Rattle.hevc_residual.specs.LimitLaws.{parameter_passed}
-use Rattle.hevc_plain_checks.specs.declared.record.Made.{Made}
-use Rattle.hevc_plain_checks.specs.declared.record.Made.TheVariants as made
 use Rattle.hevc_plain.specs.Plain.{plain_params, zeros, plain_refusal, plain_of, limits_refusal, plain_record}
 use Rattle.hevc_plain.specs.PlainLaws.{Plain, plain_passed}
 
-abbrev pub made_says : Made → Answer Params
-made_says (made.Record p) = accepted p
-made_says (made.Refused n) = refused n
+abbrev pub made_says : Result Params ℕ → Answer Params
+made_says (Ok p) = accepted p
+made_says (Err n) = refused n
 
 -- ---- the code's ways out
 module _ (log2 scan : ℕ) where

@@ -6,13 +6,6 @@ ghost use Rattle.hevc_plain_checks.specs.Record.{made_says};
 use crate::checks::plain_refusal;
 use hevc_residual::params::Params;
 
-// A plain record, or the number of the refusal.
-#[derive(Clone, Copy)]
-pub enum Made {
-    Record(Params),
-    Refused(u32),
-}
-
 // 4, of size and scan
 fn limits_refusal(log2: u32, scan: u32) -> u32
     ensures { result ≡ limits_refusal log2 scan }
@@ -29,7 +22,7 @@ fn limits_refusal(log2: u32, scan: u32) -> u32
     0
 }
 
-// 8 bits and no option of the range extensions; 4 and 24 of size and scan, as the entry points give them.
+// 8 bits and no option of the range extensions, or the number of the refusal: 4 and 24 of size and scan, as the entry points give them.
 pub fn plain_params(
     log2: u32,
     luma: bool,
@@ -38,12 +31,12 @@ pub fn plain_params(
     skip_allowed: bool,
     lossless: bool,
     inter: bool,
-) -> Made
+) -> Result<Params, u32>
     ensures { made_says result ≡ plain_record log2 luma scan hiding skip_allowed lossless inter }
 {
     let a = limits_refusal(log2, scan);
     if a != 0 {
-        return Made::Refused(a);
+        return Err(a);
     }
     let p = Params {
         log2,
@@ -64,7 +57,7 @@ pub fn plain_params(
     let statistics = [0u8; 4];
     let b = plain_refusal(p, &statistics);
     if b != 0 {
-        return Made::Refused(b);
+        return Err(b);
     }
-    Made::Record(p)
+    Ok(p)
 }

@@ -24,11 +24,11 @@ pub fn residual_coding_plain(
 {
     let a = payload_refusal(bytes);
     if a != 0 {
-        return Read::Refused(a);
+        return Err(a);
     }
     let b = plain_checks(stats, p, block);
     if b != 0 {
-        return Read::Refused(b);
+        return Err(b);
     }
     residual_coding(bytes, e, contexts, stats, p, block)
 }
@@ -39,7 +39,7 @@ pub fn read_bins_plain(bytes: &[u8], stats: &mut [u8; 4], p: Params, block: &mut
 {
     let a = plain_checks(stats, p, block);
     if a != 0 {
-        return ReadList::Refused(a);
+        return Err(a);
     }
     read_bins(bytes, stats, p, block)
 }

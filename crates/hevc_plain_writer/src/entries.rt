@@ -23,7 +23,7 @@ pub fn write_bins_plain(
 {
     let a = plain_checks(stats, p, block);
     if a != 0 {
-        return Written::Refused(a);
+        return Err(a);
     }
     write_bins(p, stats, block, skip, rdpcm, room)
 }

@@ -1,10 +1,10 @@
 -- What `reached` answers: the definitions of hevc_depends, side by side.
-use Rattle.std.specs.Prelude.{ℕ, List, ℤ}
+use Rattle.std.specs.Prelude.{ℕ, List, ℤ, Result, Ok, Err}
 use Rattle.bins.specs.declared.state.Engine.{Engine}
 use Rattle.bins.specs.declared.state.Interval.{Interval}
+use Rattle.bins.specs.declared.state.Refusal.{Refusal}
 use Rattle.hevc_residual.specs.declared.params.Params.{Params}
 use Rattle.hevc_block.specs.declared.block.Blocked.{Blocked}
-use Rattle.hevc_block.specs.declared.block.Blocked.TheVariants as blocked
 use Rattle.hevc_depends.specs.Reached as depends
 use Rattle.hevc_reached.specs.declared.entries.ReachedAt.{ReachedAt}
 
@@ -14,6 +14,6 @@ reached_all l e contexts stats p block =
     record { state = depends.reached l e contexts stats p block; past = depends.drew_past l e contexts stats p block }
 
 -- the interval at which the code's reading ended
-abbrev pub end_of : Blocked → Interval
-end_of (blocked.Got f y) = y
-end_of (blocked.Refused n) = n.at
+abbrev pub end_of : Result Blocked Refusal → Interval
+end_of (Ok b) = b.next
+end_of (Err n) = n.at

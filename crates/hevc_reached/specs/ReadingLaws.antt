@@ -3,9 +3,10 @@ use Prim.Native.Nat.{ℕ, zero, suc, ◌≤◌}
 use Rattle.std.proofs.Math.Path.{◌≡◌, refl, sym, ap}
 use Rattle.std.proofs.Common.{◌∙◌, arith}
 use Rattle.std.proofs.Math.Bool.{false}
-use Rattle.std.specs.Prelude.{List, ℤ}
+use Rattle.std.specs.Prelude.{List, ℤ, Result, Ok, Err}
 use Rattle.bins.specs.declared.state.Engine.{Engine}
 use Rattle.bins.specs.declared.state.Interval.{Interval}
+use Rattle.bins.specs.declared.state.Refusal.{Refusal}
 use Rattle.bins.specs.Bits.{ends, past_most}
 use Rattle.bins.specs.Engine.{place}
 use Rattle.bins.specs.Interval.{opened, settled}
@@ -19,7 +20,6 @@ use Rattle.hevc_residual.specs.declared.params.Params.{Params}
 use Rattle.hevc_residual.specs.Residual.{Block, residual}
 use Rattle.hevc_elements.specs.Agree.{from}
 use Rattle.hevc_block.specs.declared.block.Blocked.{Blocked}
-use Rattle.hevc_block.specs.declared.block.Blocked.TheVariants as blocked
 use Rattle.hevc_residual.specs.Answers.{payload_checks}
 use Rattle.hevc_read_into.specs.IntoAgree.{SaysInto}
 use Rattle.hevc_reader.specs.EntriesLaws.{checks_passed}
@@ -27,11 +27,11 @@ use Rattle.hevc_depends.specs.Reached.{reached_by, reached, drew_past}
 use Rattle.hevc_reached.specs.declared.entries.ReachedAt.{ReachedAt}
 use Rattle.hevc_reached.specs.Reading.{reached_all, end_of}
 
-pub says_end : (p : Params) (l : List ℕ) (x : Interval) (cs stats : List ℕ) (block : List ℤ) (b : Blocked) (cs' stats' : List ℕ) (block' : List ℤ)
+pub says_end : (p : Params) (l : List ℕ) (x : Interval) (cs stats : List ℕ) (block : List ℤ) (b : Result Blocked Refusal) (cs' stats' : List ℕ) (block' : List ℤ)
     → SaysInto p false l x cs stats block b cs' stats' block' → end_of b ≡ (state_of (from false l (residual p stats) x cs)).interval
 unfolding state_of
-says_end p l x cs stats block (blocked.Got f y) cs' stats' block' h = sym (ap (λ (o : Out Cursor Block). (state_of o).interval) h.3)
-says_end p l x cs stats block (blocked.Refused n) cs' stats' block' h = sym (ap (λ (o : Out Cursor Block). (state_of o).interval) h.0.1)
+says_end p l x cs stats block (Ok b) cs' stats' block' h = sym (ap (λ (o : Out Cursor Block). (state_of o).interval) h.3)
+says_end p l x cs stats block (Err n) cs' stats' block' h = sym (ap (λ (o : Out Cursor Block). (state_of o).interval) h.0.1)
 
 state_seen : (l : List ℕ) (e : Engine) (o : Out Cursor Block) → (state_of (map_out (seen l e) o)).engine ≡ settled l e (state_of o).interval
 unfolding state_of

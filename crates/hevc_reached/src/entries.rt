@@ -6,12 +6,11 @@ ghost use Rattle.bins.specs.Raised as raised;
 ghost use Rattle.hevc_residual.specs.Residual.{residual};
 ghost use Rattle.hevc_residual.specs.Limits.{Accepted, Statistics};
 ghost use Rattle.hevc_elements.specs.Agree.{Reads, from};
-ghost use Rattle.hevc_reached.specs.Reading.{end_of, reached_all};
+ghost use Rattle.hevc_reached.specs.Reading.{reached_all};
 
 use bins::state::{Engine, Interval};
 use bins::tags::CONTEXTS;
 use cabac_state::engine::{open, settle};
-use hevc_block::block::Blocked;
 use hevc_payload_checks::checks::payload_checks;
 use hevc_read_into::into::read_into;
 use hevc_residual::params::Params;
@@ -22,16 +21,6 @@ use tables::decision_table;
 pub struct ReachedAt {
     pub state: Engine,
     pub past: u32,
-}
-
-// The interval at which the reading ended.
-fn end_of(b: Blocked) -> Interval
-    ensures { result ≡ end_of b }
-{
-    match b {
-        Blocked::Got(_, y) => y,
-        Blocked::Refused(r) => r.at,
-    }
 }
 
 // The state with no total.
@@ -64,7 +53,10 @@ fn read_to_end(
     let mut st = *stats;
     let mut levels = [0i32; 1024];
     let r = read_into(false, &table, &mut cs, &mut st, bytes, p, &mut levels, x);
-    end_of(r)
+    match r {
+        Ok(read) => read.next,
+        Err(refusal) => refusal.at,
+    }
 }
 
 pub fn reached(

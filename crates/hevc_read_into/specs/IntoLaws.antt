@@ -1,6 +1,6 @@
 -- The places that a reading clears, and each way out of it. Assumes nothing.
-use Rattle.std.specs.Prelude.{ℕ, ◌≡◌, refl, Bool, List, ◌++◌, ℤ, pos, length, take, drop, replicate}
-use Rattle.std.proofs.Common.{sym, ap, subst, ◌∙◌}
+use Rattle.std.specs.Prelude.{ℕ, ◌≡◌, refl, Bool, List, ◌++◌, ℤ, pos, length, take, drop, replicate, true, false, is_err, Result, Ok, Err}
+use Rattle.std.proofs.Common.{sym, ap, subst, ◌∙◌, arith}
 use Rattle.std.proofs.lemmas.List.{length-replicate}
 use Rattle.std.proofs.Math.Seq.{take-append_seam, drop-append_seam}
 use Rattle.bins.specs.declared.state.Refusal.{Refusal}
@@ -8,9 +8,7 @@ use Rattle.bins.specs.declared.state.Interval.{Interval}
 use Rattle.hevc_residual.specs.declared.params.Params.{Params}
 use Rattle.hevc_residual.specs.Wanted.{area}
 use Rattle.hevc_residual.specs.Entries.{block_with, cleared}
-use Rattle.hevc_residual.specs.declared.answers.Found.{Found}
 use Rattle.hevc_block.specs.declared.block.Blocked.{Blocked}
-use Rattle.hevc_block.specs.declared.block.Blocked.TheVariants as blocked
 use Rattle.hevc_block.specs.BlockAgree.{SaysBlock}
 use Rattle.hevc_read_into.specs.IntoAgree.{SaysInto}
 
@@ -44,14 +42,13 @@ cleared_again p n q block levels now last h e c =
     c ∙ ap (λ (l : List ℤ). replicate n (pos 0) ++ l) d ∙ ap (λ k. replicate k (pos 0) ++ drop (area p) block) q
 
 -- ---- a block into the front of a lent one
-module _ (p : Params) (list : Bool) (l : List ℕ) (x : Interval) (cs stats : List ℕ) (block : List ℤ) (r : Blocked) (cs' : List ℕ) (levels : List ℤ) (stats' : List ℕ)
-    (s : SaysBlock p list l x cs stats r cs' levels stats') (h : length levels ≡ area p) where
-  pub into_got : (f : Found) (y : Interval) → r ≡ blocked.Got f y → (block' : List ℤ) → block' ≡ block_with p levels block → SaysInto p list l x cs stats block r cs' stats' block'
-  into_got f y q block' e =
-      subst (λ (z : Blocked). SaysInto p list l x cs stats block z cs' stats' block') (sym q)
-      (levels, h, e, subst (λ (z : Blocked). SaysBlock p list l x cs stats z cs' levels stats') q s)
+module _ (p : Params) (list : Bool) (l : List ℕ) (x : Interval) (cs stats : List ℕ) (block : List ℤ) (cs' : List ℕ) (levels : List ℤ) (stats' : List ℕ) (h : length levels ≡ area p) where
+  pub into_got : (r : Result Blocked Refusal) → SaysBlock p list l x cs stats r cs' levels stats' → is_err r ≡ false
+      → (block' : List ℤ) → block' ≡ block_with p levels block → SaysInto p list l x cs stats block r cs' stats' block'
+  into_got (Ok b) s q block' e = (levels, h, e, s)
+  into_got (Err n) s q block' e = let z : ◌≡◌ {A = ℕ} 0 1 = cc in absurd (omega arith)
 
-  pub into_refused : (n : Refusal) → r ≡ blocked.Refused n → (block' : List ℤ) → block' ≡ cleared p block → SaysInto p list l x cs stats block r cs stats block'
-  into_refused n q block' e =
-      subst (λ (z : Blocked). SaysInto p list l x cs stats block z cs stats block') (sym q)
-      (subst (λ (z : Blocked). SaysBlock p list l x cs stats z cs' levels stats') q s, refl, refl, e)
+  pub into_refused : (r : Result Blocked Refusal) → SaysBlock p list l x cs stats r cs' levels stats' → is_err r ≡ true
+      → (block' : List ℤ) → block' ≡ cleared p block → SaysInto p list l x cs stats block r cs stats block'
+  into_refused (Ok b) s q block' e = let z : ◌≡◌ {A = ℕ} 0 1 = cc in absurd (omega arith)
+  into_refused (Err n) s q block' e = (s, refl, refl, e)

@@ -6,7 +6,7 @@ ghost use Rattle.hevc_elements.specs.Agree.{Reads};
 ghost use Rattle.hevc_residual.specs.Limits.{Accepted, Statistics};
 ghost use Rattle.hevc_read_into.specs.IntoAgree.{SaysInto};
 
-use bins::state::Interval;
+use bins::state::{Interval, Refusal};
 use bins::tags::CONTEXTS;
 use hevc_block::block::{Blocked, read_block};
 use hevc_residual::params::Params;
@@ -23,7 +23,7 @@ pub fn read_into(
     p: Params,
     block: &mut [i32],
     x: Interval,
-) -> Blocked
+) -> Result<Blocked, Refusal>
     requires { Reads list bytes.now x contexts.old × (table.now ≡ decisions) × Accepted p × (area p ≤ length block.old) × Statistics stats.old }
     ensures { SaysInto p list bytes.now x contexts.old stats.old block.old result contexts.new stats.new block.new }
 {
@@ -32,11 +32,10 @@ pub fn read_into(
     let n = area_of(p.log2);
     clear(block, n);
     let r = read_block(list, table, contexts, stats, bytes, p, &mut block[..n], x);
-    let Blocked::Got(_, _) = r else {
+    if r.is_err() {
         *contexts = contexts_before;
         *stats = stats_before;
         clear(block, n);
-        return r;
-    };
+    }
     r
 }

@@ -1,6 +1,6 @@
 -- The entry points' checks, and each way out of them. Assumes nothing.
 use Prim.Native.Nat.{ℕ, zero, suc, ◌≤◌}
-use Rattle.std.specs.Prelude.{◌≡◌, refl, Bool, ℤ, pos, replicate}
+use Rattle.std.specs.Prelude.{◌≡◌, refl, Bool, ℤ, pos, replicate, Result, Ok, Err}
 use Rattle.std.proofs.Math.Path.{sym, ap, subst}
 use Rattle.std.proofs.Common.{◌∙◌, arith}
 use Rattle.std.proofs.Math.Bool.{true, false}
@@ -14,7 +14,7 @@ use Rattle.bins.specs.Bits.{ends, past_most}
 use Rattle.bins.specs.Engine.{place}
 use Rattle.bins.specs.Interval.{opened, settled, place_of, Goes}
 use Rattle.bins.specs.Syn.{Out, run, by_list}
-use Rattle.bins.specs.Sources.{Cursor, refused_at}
+use Rattle.bins.specs.Sources.{Cursor}
 use Rattle.bins.specs.Laws.{map_out}
 use Rattle.bins.specs.CodeLaws.{Packed}
 use Rattle.bins.specs.EngineRuns.{runs_goes}
@@ -32,18 +32,12 @@ use Rattle.hevc_residual.specs.Entries.{block_with, cleared, read_by_engine, rea
 use Rattle.hevc_elements.specs.Agree.{Reads, from, reads_on}
 use Rattle.hevc_residual.specs.declared.answers.Found.{Found}
 use Rattle.hevc_block.specs.declared.block.Blocked.{Blocked}
-use Rattle.hevc_block.specs.declared.block.Blocked.TheVariants as blocked
-use Rattle.hevc_residual.specs.declared.answers.Read.TheVariants as read
-use Rattle.hevc_residual.specs.declared.answers.ReadList.TheVariants as readlist
 use Rattle.hevc_block.specs.BlockAgree.{block_of}
 use Rattle.hevc_checks.specs.ChecksAgree.{bins_checks}
 use Rattle.hevc_residual.specs.Answers.{payload_read, bins_read, payload_checks}
-use Rattle.hevc_read_into.specs.IntoAgree.{blocked_no, SaysInto}
+use Rattle.hevc_read_into.specs.IntoAgree.{SaysInto}
 use Rattle.hevc_read_into.specs.IntoLaws.{cleared_again}
 use Rattle.hevc_checks.specs.ChecksLaws.{contexts_packed}
-
-pub blocked_number : (r : Blocked) (m : Refusal) (n : ℕ) → r ≡ blocked.Refused m → n ≡ blocked_no r → r ≡ blocked.Refused (refused_at n m.at)
-blocked_number r m n q e = q ∙ ap (λ k. blocked.Refused (refused_at k m.at)) (sym (e ∙ ap blocked_no q))
 
 -- ---- 6
 not_ended : (e : Engine) (b : Bool) → e.ended ≡ b → 0 ≡ ended_refusal e → e.ended ≡ false
@@ -85,13 +79,13 @@ module _ (l : List ℕ) (e : Engine) (contexts stats : List ℕ) (p : Params) (b
   abbrev all : ℕ
   all = payload_checks l e contexts stats p block
 
-  pub payload_no_lem : (n : ℕ) → n ≡ payload_checks l e contexts stats p block → (n ≡ 0 → ⊥) → payload_read (read.Refused n) contexts stats block ≡ read_payload l e contexts stats p block
+  pub payload_no_lem : (n : ℕ) → n ≡ payload_checks l e contexts stats p block → (n ≡ 0 → ⊥) → payload_read (Err n) contexts stats block ≡ read_payload l e contexts stats p block
   unfolding read_payload
   payload_no_lem n q h = go all q
     where
-      go : (k : ℕ) → n ≡ k → payload_read (read.Refused n) contexts stats block ≡ read_payload_by k l e contexts stats p block
+      go : (k : ℕ) → n ≡ k → payload_read (Err n) contexts stats block ≡ read_payload_by k l e contexts stats p block
       go zero u = absurd (h u)
-      go (suc k) u = unfold read_payload_by in ap (λ m. payload_read (read.Refused m) contexts stats block) u
+      go (suc k) u = unfold read_payload_by in ap (λ m. payload_read (Err m) contexts stats block) u
 
   module _ (q : 0 ≡ payload_checks l e contexts stats p block) where
     pub checks_passed : Passed l e contexts stats p block
@@ -120,24 +114,24 @@ module _ (l : List ℕ) (e : Engine) (contexts stats : List ℕ) (p : Params) (b
         ∙ unfold read_payload_by in ap (read_by_engine p contexts stats block) (run_opened l e (residual p stats) contexts checks_passed.fits checks_passed.counts)
 
     -- r is what the reading into the block answered
-    module _ (r : Blocked) (contexts' stats' : List ℕ) (block' : List ℤ) (s : SaysInto p false l (opened e) contexts stats block r contexts' stats' block') where
-      pub payload_refused : (n : ℕ) {at : Interval} → r ≡ blocked.Refused (refused_at n at) → payload_read (read.Refused n) contexts' stats' block' ≡ read_payload l e contexts stats p block
+    module _ (r : Result Blocked Refusal) (contexts' stats' : List ℕ) (block' : List ℤ) (s : SaysInto p false l (opened e) contexts stats block r contexts' stats' block') where
+      pub payload_refused : (n : Refusal) → r ≡ Err n → payload_read (Err n.number) contexts' stats' block' ≡ read_payload l e contexts stats p block
       unfolding read_by_engine
       payload_refused n u =
-          let w = subst (λ (z : Blocked). SaysInto p false l (opened e) contexts stats block z contexts' stats' block') u s in
-          let a : payload_read (read.Refused n) contexts' stats' block' ≡ payload_read (read.Refused n) contexts stats (cleared p block) = rw (w.1, w.2, w.3) in
-          let b : read_by_engine p contexts stats block (map_out (seen l e) (from false l (residual p stats) (opened e) contexts)) ≡ payload_read (read.Refused n) contexts stats (cleared p block) =
+          let w = subst (λ (z : Result Blocked Refusal). SaysInto p false l (opened e) contexts stats block z contexts' stats' block') u s in
+          let a : payload_read (Err n.number) contexts' stats' block' ≡ payload_read (Err n.number) contexts stats (cleared p block) = rw (w.1, w.2, w.3) in
+          let b : read_by_engine p contexts stats block (map_out (seen l e) (from false l (residual p stats) (opened e) contexts)) ≡ payload_read (Err n.number) contexts stats (cleared p block) =
           ap (λ (o : Out Cursor Block). read_by_engine p contexts stats block (map_out (seen l e) o)) w.0.1 in
           a ∙ sym b ∙ sym left_to_read
 
-      pub payload_got : (f : Found) (y : Interval) → r ≡ blocked.Got f y → (d : Engine) → d ≡ settled l e y
-          → payload_read (read.Block f d) contexts' stats' block' ≡ read_payload l e contexts stats p block
+      pub payload_got : (f : Found) (y : Interval) → r ≡ Ok (record { found = f; next = y }) → (d : Engine) → d ≡ settled l e y
+          → payload_read (Ok (record { found = f; state = d })) contexts' stats' block' ≡ read_payload l e contexts stats p block
       unfolding read_by_engine
       payload_got f y u d v =
-          let w = subst (λ (z : Blocked). SaysInto p false l (opened e) contexts stats block z contexts' stats' block') u s in
-          let a : payload_read (read.Block f d) contexts' stats' block' ≡ payload_read (read.Block f (settled l e y)) contexts' stats' (block_with p w.0 block) =
-          ap (λ (t : Engine). payload_read (read.Block f t) contexts' stats' block') v ∙ ap (λ (z : List ℤ). payload_read (read.Block f (settled l e y)) contexts' stats' z) w.2 in
-          let b : read_by_engine p contexts stats block (map_out (seen l e) (from false l (residual p stats) (opened e) contexts)) ≡ payload_read (read.Block f (settled l e y)) contexts' stats' (block_with p w.0 block) =
+          let w = subst (λ (z : Result Blocked Refusal). SaysInto p false l (opened e) contexts stats block z contexts' stats' block') u s in
+          let a : payload_read (Ok (record { found = f; state = d })) contexts' stats' block' ≡ payload_read (Ok (record { found = f; state = settled l e y })) contexts' stats' (block_with p w.0 block) =
+          ap (λ (t : Engine). payload_read (Ok (record { found = f; state = t })) contexts' stats' block') v ∙ ap (λ (z : List ℤ). payload_read (Ok (record { found = f; state = settled l e y })) contexts' stats' z) w.2 in
+          let b : read_by_engine p contexts stats block (map_out (seen l e) (from false l (residual p stats) (opened e) contexts)) ≡ payload_read (Ok (record { found = f; state = settled l e y })) contexts' stats' (block_with p w.0 block) =
           ap (λ (o : Out Cursor Block). read_by_engine p contexts stats block (map_out (seen l e) o)) w.3 in
           a ∙ sym b ∙ sym left_to_read
 
@@ -148,13 +142,13 @@ pub record BinsPassed (stats : List ℕ) (p : Params) (block : List ℤ) : Type 
   pub room : area p ≤ length block
 
 module _ (l : List ℕ) (stats : List ℕ) (p : Params) (block : List ℤ) where
-  pub bins_no : (n : ℕ) → n ≡ bins_checks stats p block → (n ≡ 0 → ⊥) → bins_read (readlist.Refused n) stats block ≡ read_bins l stats p block
+  pub bins_no : (n : ℕ) → n ≡ bins_checks stats p block → (n ≡ 0 → ⊥) → bins_read (Err n) stats block ≡ read_bins l stats p block
   unfolding read_bins
   bins_no n q h = go (bins_checks stats p block) q
     where
-      go : (k : ℕ) → n ≡ k → bins_read (readlist.Refused n) stats block ≡ read_bins_by k l stats p block
+      go : (k : ℕ) → n ≡ k → bins_read (Err n) stats block ≡ read_bins_by k l stats p block
       go zero u = absurd (h u)
-      go (suc k) u = unfold read_bins_by in ap (λ m. bins_read (readlist.Refused m) stats block) u
+      go (suc k) u = unfold read_bins_by in ap (λ m. bins_read (Err m) stats block) u
 
   module _ (q : 0 ≡ bins_checks stats p block) where
     pub bins_passed : BinsPassed stats p block
@@ -171,43 +165,43 @@ module _ (l : List ℕ) (stats : List ℕ) (p : Params) (block : List ℤ) where
           ap (λ k. run by_list (residual p stats) (drop k l)) (sym front) ∙ run_listed l (residual p stats) x contexts in
           ap (λ n. read_bins_by n l stats p block) (sym q) ∙ ap (read_from_list p stats block) w
 
-      module _ (r : Blocked) (contexts' stats' : List ℕ) (block' : List ℤ) (s : SaysInto p true l x contexts stats block r contexts' stats' block') where
-        abbrev Into : Blocked → Type 0
+      module _ (r : Result Blocked Refusal) (contexts' stats' : List ℕ) (block' : List ℤ) (s : SaysInto p true l x contexts stats block r contexts' stats' block') where
+        abbrev Into : Result Blocked Refusal → Type 0
         Into z = SaysInto p true l x contexts stats block z contexts' stats' block'
 
-        pub bins_refused : (n : ℕ) {at : Interval} → r ≡ blocked.Refused (refused_at n at) → bins_read (readlist.Refused n) stats block' ≡ read_bins l stats p block
+        pub bins_refused : (n : Refusal) → r ≡ Err n → bins_read (Err n.number) stats block' ≡ read_bins l stats p block
         unfolding read_from_list
         bins_refused n u =
-            let w = subst (λ (z : Blocked). Into z) u s in
-            let a : bins_read (readlist.Refused n) stats block' ≡ bins_read (readlist.Refused n) stats (cleared p block) = ap (λ (z : List ℤ). bins_read (readlist.Refused n) stats z) w.3 in
-            let b : read_from_list p stats block (map_out (left l) (from true l (residual p stats) x contexts)) ≡ bins_read (readlist.Refused n) stats (cleared p block) =
+            let w = subst (λ (z : Result Blocked Refusal). Into z) u s in
+            let a : bins_read (Err n.number) stats block' ≡ bins_read (Err n.number) stats (cleared p block) = ap (λ (z : List ℤ). bins_read (Err n.number) stats z) w.3 in
+            let b : read_from_list p stats block (map_out (left l) (from true l (residual p stats) x contexts)) ≡ bins_read (Err n.number) stats (cleared p block) =
             ap (λ (o : Out Cursor Block). read_from_list p stats block (map_out (left l) o)) w.0.1 in
             a ∙ sym b ∙ sym list_to_read
 
-        module _ (f : Found) (y : Interval) (u : r ≡ blocked.Got f y) where
-          w : Into (blocked.Got f y)
-          w = subst (λ (z : Blocked). Into z) u s
+        module _ (f : Found) (y : Interval) (u : r ≡ Ok (record { found = f; next = y })) where
+          w : Into (Ok (record { found = f; next = y }))
+          w = subst (λ (z : Result Blocked Refusal). Into z) u s
 
           got : read_bins l stats p block ≡ read_from_list p stats block (Out.ok (block_of f w.0 stats') (drop (place_of y) l))
           got = list_to_read ∙ ap (λ (o : Out Cursor Block). read_from_list p stats block (map_out (left l) o)) w.3
 
-          pub bins_got : place_of y ≡ length l → bins_read (readlist.Block f) stats' block' ≡ read_bins l stats p block
+          pub bins_got : place_of y ≡ length l → bins_read (Ok f) stats' block' ≡ read_bins l stats p block
           unfolding read_from_list
           bins_got h =
               let d : drop (place_of y) l ≡ [] = drop_of_length-le l {i = place_of y} (omega arith) in
-              let a : bins_read (readlist.Block f) stats' block' ≡ bins_read (readlist.Block f) stats' (block_with p w.0 block) = ap (λ (z : List ℤ). bins_read (readlist.Block f) stats' z) w.2 in
-              let b : read_from_list p stats block (Out.ok (block_of f w.0 stats') (drop (place_of y) l)) ≡ bins_read (readlist.Block f) stats' (block_with p w.0 block) =
+              let a : bins_read (Ok f) stats' block' ≡ bins_read (Ok f) stats' (block_with p w.0 block) = ap (λ (z : List ℤ). bins_read (Ok f) stats' z) w.2 in
+              let b : read_from_list p stats block (Out.ok (block_of f w.0 stats') (drop (place_of y) l)) ≡ bins_read (Ok f) stats' (block_with p w.0 block) =
               ap (λ (z : List ℕ). read_from_list p stats block (Out.ok (block_of f w.0 stats') z)) d in
               a ∙ sym b ∙ sym got
 
           pub bins_over : Reads true l x contexts → (place_of y ≡ length l → ⊥) → (n : ℕ) → n ≡ area p → (last : List ℤ) → last ≡ replicate n (pos 0) ++ drop n block'
-              → bins_read (readlist.Refused 13) stats last ≡ read_bins l stats p block
+              → bins_read (Err 13) stats last ≡ read_bins l stats p block
           unfolding read_from_list
           bins_over g h n e last c =
               let k : place_of y ≤ length l = (reads_on true l (residual p stats) x contexts (block_of f w.0 stats') y contexts' w.3 g).0 in
               let d : drop (place_of y) l ≡ get_or l (place_of y) 0 ∷ drop (suc (place_of y)) l = drop-cons l (place_of y) 0 (omega arith) in
-              let a : bins_read (readlist.Refused 13) stats last ≡ bins_read (readlist.Refused 13) stats (cleared p block) =
-              ap (λ (z : List ℤ). bins_read (readlist.Refused 13) stats z) (cleared_again p n e block w.0 block' last w.1 w.2 c) in
-              let b : read_from_list p stats block (Out.ok (block_of f w.0 stats') (drop (place_of y) l)) ≡ bins_read (readlist.Refused 13) stats (cleared p block) =
+              let a : bins_read (Err 13) stats last ≡ bins_read (Err 13) stats (cleared p block) =
+              ap (λ (z : List ℤ). bins_read (Err 13) stats z) (cleared_again p n e block w.0 block' last w.1 w.2 c) in
+              let b : read_from_list p stats block (Out.ok (block_of f w.0 stats') (drop (place_of y) l)) ≡ bins_read (Err 13) stats (cleared p block) =
               ap (λ (z : List ℕ). read_from_list p stats block (Out.ok (block_of f w.0 stats') z)) d in
               a ∙ sym b ∙ sym got

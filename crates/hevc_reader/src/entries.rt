@@ -5,7 +5,6 @@ ghost use Rattle.tables.specs.Decisions.{decisions};
 ghost use Rattle.hevc_residual.specs.Wanted.{area};
 ghost use Rattle.hevc_residual.specs.Entries.{read_payload, read_bins};
 ghost use Rattle.hevc_residual.specs.Answers.{payload_read, bins_read, payload_checks};
-ghost use Rattle.hevc_read_into.specs.IntoAgree.{blocked_no};
 
 use bins::places::SourcePlace;
 use bins::state::{Engine, Interval};
@@ -15,20 +14,11 @@ use hevc_block::block::Blocked;
 use hevc_checks::checks::bins_checks;
 use hevc_payload_checks::checks::payload_checks;
 use hevc_read_into::into::read_into;
-use hevc_residual::answers::{Read, ReadList};
+use hevc_residual::answers::{Read, ReadBlock, ReadList};
 use hevc_residual::params::Params;
 use hevc_sizes::clear::clear;
 use hevc_sizes::sizes::area_of;
 use tables::decision_table;
-
-fn blocked_refusal(r: Blocked) -> u32
-    ensures { result ≡ blocked_no r }
-{
-    match r {
-        Blocked::Got(_, _) => 0,
-        Blocked::Refused(r) => r.number,
-    }
-}
 
 // One block from a payload, of what the checks let through, by a table that is lent: for callers that read several.
 pub fn read_checked(
@@ -43,12 +33,13 @@ pub fn read_checked(
     requires { (table.now ≡ decisions) × (0 ≡ payload_checks bytes.now e contexts.old stats.old p block.old) }
     ensures { payload_read result contexts.new stats.new block.new ≡ read_payload bytes.now e contexts.old stats.old p block.old }
 {
-    let r = read_into(false, table, contexts, stats, bytes, p, block, open(e));
-    let Blocked::Got(found, x) = r else {
-        return Read::Refused(blocked_refusal(r));
-    };
-    let state = settle(bytes, e, x);
-    Read::Block(found, state)
+    match read_into(false, table, contexts, stats, bytes, p, block, open(e)) {
+        Ok(Blocked { found, next }) => {
+            let state = settle(bytes, e, next);
+            Ok(ReadBlock { found, state })
+        }
+        Err(refusal) => Err(refusal.number),
+    }
 }
 
 // One block from a payload. What the extents say of an accepted block: specs/Reach.antt, `block_reach`.
@@ -64,7 +55,7 @@ pub fn residual_coding(
 {
     let n = payload_checks(bytes, e, contexts, stats, p, block);
     if n != 0 {
-        return Read::Refused(n);
+        return Err(n);
     }
     let table = decision_table();
     read_checked(&table, bytes, e, contexts, stats, p, block)
@@ -76,7 +67,7 @@ pub fn read_bins(bytes: &[u8], stats: &mut [u8; 4], p: Params, block: &mut [i32]
 {
     let n = bins_checks(stats, p, block);
     if n != 0 {
-        return ReadList::Refused(n);
+        return Err(n);
     }
     let mut contexts = [0u8; CONTEXTS];
     let mut st = *stats;
@@ -86,15 +77,15 @@ pub fn read_bins(bytes: &[u8], stats: &mut [u8; 4], p: Params, block: &mut [i32]
         position: SourcePlace(0),
     };
     let table = decision_table();
-    let r = read_into(true, &table, &mut contexts, &mut st, bytes, p, block, front);
-    let Blocked::Got(found, x) = r else {
-        return ReadList::Refused(blocked_refusal(r));
+    let read = match read_into(true, &table, &mut contexts, &mut st, bytes, p, block, front) {
+        Ok(read) => read,
+        Err(refusal) => return Err(refusal.number),
     };
-    let at = x.position;
+    let at = read.next.position;
     if at.0 != bytes.len() {
         clear(block, area_of(p.log2));
-        return ReadList::Refused(13);
+        return Err(13);
     }
     *stats = st;
-    ReadList::Block(found)
+    Ok(read.found)
 }

@@ -9,12 +9,10 @@ use Rattle.std.proofs.Math.Dec.{ltb}
 use Rattle.std.proofs.lemmas.Bool.{lt-leb}
 use Rattle.bins.specs.declared.state.Interval.{Interval}
 use Rattle.bins.specs.declared.state.Refusal.{Refusal}
-use Rattle.bins.specs.declared.state.Step.{Step}
-use Rattle.bins.specs.declared.state.Step.TheVariants as step
 use Rattle.bins.specs.Engine.{bit_no}
 use Rattle.bins.specs.Syn.{done, stop, ◌>>=◌, Took, took, refused, Source, Out, onward, run}
 use Rattle.bins.specs.Readers.{bits_s, ones_s}
-use Rattle.bins.specs.Sources.{Cursor, cursor, by_code, bits_from, step_of_bits, Readable, stopped, refused_at}
+use Rattle.bins.specs.Sources.{Cursor, cursor, by_code, bits_from, step_of_bits, Readable, stopped, refused_at, Step, got}
 use Rattle.bins.specs.Laws.{RefusedBy, bind_ok, bind_no, map_out}
 use Rattle.bins.specs.CodeLaws.{bits_from_lem}
 use Rattle.bins.specs.StepLaws.{bit_small}
@@ -84,12 +82,11 @@ refused_as n o p q r = (r.0, q ∙ r.1)
 module _ (s : Bool) (l : List ℕ) (m : ℕ) (x : Interval) (f : Step)
     (F : (w : ℕ → Wanted → Bool) (cs : List ℕ) → Says f cs (from s l (ones_s m 0 w) x cs)) where
   ones_refused : (w : ℕ → Wanted → Bool) (rest : ℕ → S ℕ) (cs : List ℕ) (n : Refusal) → f ≡ stopped n
-      → SaysCapped f cs (from s l (ones_s m 0 w >>= rest) x cs)
+      → RefusedBy n (from s l (ones_s m 0 w >>= rest) x cs)
   ones_refused w rest cs n q =
-      subst (λ (z : Step). SaysCapped z cs (from s l (ones_s m 0 w >>= rest) x cs)) (sym q)
       (bind_no (by_code s l) (ones_s m 0 w) rest (cursor x cs) n (says_no f n cs _ (F w cs) q))
 
-  module _ (n : ℕ) (y : Interval) (q : f ≡ step.Bin n y) where
+  module _ (n : ℕ) (y : Interval) (q : f ≡ got n y) where
     ones_behind : (w : ℕ → Wanted → Bool) (rest : ℕ → S ℕ) (cs : List ℕ) → from s l (ones_s m 0 w >>= rest) x cs ≡ from s l (rest n) y cs
     ones_behind w rest cs =
         bind_ok (by_code s l) (ones_s m 0 w) rest (cursor x cs) n (cursor y cs) (says_ok f n y cs _ (F w cs) q)
@@ -115,7 +112,7 @@ module _ (s : Bool) (l : List ℕ) (n : ℕ) (y : Interval) (h : Readable s l y)
       go (Out.ok v z) = refl
       go (Out.no k z) = (cs, refl)
 
-  pub suffix_below : (u : ℕ) (z : Interval) → g ≡ step.Bin u z → u < 2 ^ n
+  pub suffix_below : (u : ℕ) (z : Interval) → g ≡ got u z → u < 2 ^ n
   suffix_below u z q =
       let w : Wanted → ℕ = λ t. 0 in
       gives_ok (λ a. a < 2 ^ n) _ u (cursor z []) (bits_give (by_code s l) (2 ^ n) n 0 w (cursor y []) (omega arith)) (says_ok g u z [] _ (bits_says w []) q)
@@ -126,7 +123,7 @@ module _ (s : Bool) (l : List ℕ) (n : ℕ) (y : Interval) (h : Readable s l y)
     suffix_refused k q =
         bind_no (by_code s l) (bits_s n 0 w) (λ u. done (base + u)) (cursor y cs) k (says_no g k cs _ (bits_says w cs) q)
 
-    suffix_got : (u : ℕ) (z : Interval) → g ≡ step.Bin u z
+    suffix_got : (u : ℕ) (z : Interval) → g ≡ got u z
         → from s l (bits_s n 0 w >>= λ u. done (base + u)) y cs ≡ Out.ok (base + u) (cursor z cs)
     suffix_got u z q =
         bind_ok (by_code s l) (bits_s n 0 w) (λ u. done (base + u)) (cursor y cs) u (cursor z cs) (says_ok g u z cs _ (bits_says w cs) q)
@@ -142,10 +139,10 @@ module _ (m : ℕ) (w : ℕ → Wanted → Bool) (test : ℕ → Bool) (len base
 
   module _ (s : Bool) (l : List ℕ) (x : Interval) (f : Step)
       (F : (w : ℕ → Wanted → Bool) (cs : List ℕ) → Says f cs (from s l (ones_s m 0 w) x cs)) (cs : List ℕ) where
-    escaped_refused : (n : Refusal) → f ≡ stopped n → SaysCapped f cs (from s l escaped x cs)
+    escaped_refused : (n : Refusal) → f ≡ stopped n → RefusedBy n (from s l escaped x cs)
     escaped_refused n q = ones_refused s l m x f F w (λ n. pick (test n) (stop 8) (suffixed n)) cs n q
 
-    module _ (n : ℕ) (y : Interval) (q : f ≡ step.Bin n y) where
+    module _ (n : ℕ) (y : Interval) (q : f ≡ got n y) where
       escaped_stops : test n ≡ true → RefusedBy (refused_at 8 y) (from s l escaped x cs)
       escaped_stops t =
           refused_as (refused_at 8 y) _ _
@@ -157,12 +154,11 @@ module _ (m : ℕ) (w : ℕ → Wanted → Bool) (test : ℕ → Bool) (len base
         escaped_on =
             ones_behind s l m x f F n y q w (λ n. pick (test n) (stop 8) (suffixed n)) cs ∙ ap (λ u. from s l u y cs) (passed (test n) (stop 8) (suffixed n) t)
 
-        escaped_short : (k : Refusal) → g ≡ stopped k → SaysCapped g cs (from s l escaped x cs)
+        escaped_short : (k : Refusal) → g ≡ stopped k → RefusedBy k (from s l escaped x cs)
         escaped_short k e =
-            subst (λ (z : Step). SaysCapped z cs (from s l escaped x cs)) (sym e)
             (refused_as k _ _ escaped_on (suffix_refused s l (len n) y h g G (w' n) (base n) cs k e))
 
-        escaped_got : (u : ℕ) (z : Interval) → g ≡ step.Bin u z → from s l escaped x cs ≡ Out.ok (base n + u) (cursor z cs)
+        escaped_got : (u : ℕ) (z : Interval) → g ≡ got u z → from s l escaped x cs ≡ Out.ok (base n + u) (cursor z cs)
         escaped_got u z e = escaped_on ∙ suffix_got s l (len n) y h g G (w' n) (base n) cs u z e
 
 -- ---- Exp-Golomb of order k
@@ -189,11 +185,11 @@ module _ (s : Bool) (l : List ℕ) (k : ℕ) (x : Interval) (f : Step)
   egk_rest : ℕ → Wanted → ℕ
   egk_rest n t = v t - eg_base k n
 
-  pub egk_refused : (n : Refusal) → f ≡ stopped n → SaysCapped f cs (from s l (egk_s k v) x cs)
+  pub egk_refused : (n : Refusal) → f ≡ stopped n → RefusedBy n (from s l (egk_s k v) x cs)
   unfolding egk_s egk_test egk_ones egk_rest
   egk_refused n q = escaped_refused 31 egk_ones egk_test (λ n. n + k) (eg_base k) egk_rest s l x f F cs n q
 
-  module _ (n : ℕ) (y : Interval) (q : f ≡ step.Bin n y) where
+  module _ (n : ℕ) (y : Interval) (q : f ≡ got n y) where
     pub egk_stops : (31 ≤ n) → RefusedBy (refused_at 8 y) (from s l (egk_s k v) x cs)
     unfolding egk_s egk_test egk_ones egk_rest
     egk_stops h =
@@ -209,13 +205,13 @@ module _ (s : Bool) (l : List ℕ) (k : ℕ) (x : Interval) (f : Step)
       unfolding egk_test
       egk_fine = or_none (leb 31 n) (leb 32 (n + k)) (lt-leb 31 n few) (lt-leb 32 (n + k) short)
 
-      pub egk_short : (m : Refusal) → g ≡ stopped m → SaysCapped g cs (from s l (egk_s k v) x cs)
+      pub egk_short : (m : Refusal) → g ≡ stopped m → RefusedBy m (from s l (egk_s k v) x cs)
       unfolding egk_s egk_test egk_ones egk_rest
       egk_short m e =
           escaped_short 31 egk_ones egk_test (λ n. n + k) (eg_base k) egk_rest s l x f F cs n y q egk_fine (ones_readable s l 31 x f F n y q h) g G m e
 
-      pub egk_got : (u : ℕ) (z : Interval) → g ≡ step.Bin u z → (r : ℕ) → r ≡ min (eg_base k n + u) most
-          → SaysCapped (step.Bin r z) cs (from s l (egk_s k v) x cs)
+      pub egk_got : (u : ℕ) (z : Interval) → g ≡ got u z → (r : ℕ) → r ≡ min (eg_base k n + u) most
+          → SaysCapped (got r z) cs (from s l (egk_s k v) x cs)
       unfolding egk_s egk_test egk_ones egk_rest
       egk_got u z e r p =
           (eg_base k n + u, p, escaped_got 31 egk_ones egk_test (λ n. n + k) (eg_base k) egk_rest s l x f F cs n y q egk_fine (ones_readable s l 31 x f F n y q h) g G u z e)
@@ -223,7 +219,7 @@ module _ (s : Bool) (l : List ℕ) (k : ℕ) (x : Interval) (f : Step)
 -- ---- its limited form: len is the length that the code worked out
 module _ (s : Bool) (l : List ℕ) (T k : ℕ) (x : Interval) (f : Step)
     (F : (w : ℕ → Wanted → Bool) (cs : List ℕ) → Says f cs (from s l (ones_s (28 - T) 0 w) x cs)) where
-  pub limited_few : 15 ≤ T → (n : ℕ) (y : Interval) → f ≡ step.Bin n y → n ≤ 13
+  pub limited_few : 15 ≤ T → (n : ℕ) (y : Interval) → f ≡ got n y → n ≤ 13
   limited_few h n y q = omega (arith, ones_upto s l (28 - T) x f F n y q)
 
   module _ (v : Wanted → ℕ) (cs : List ℕ) where
@@ -236,12 +232,12 @@ module _ (s : Bool) (l : List ℕ) (T k : ℕ) (x : Interval) (f : Step)
     limited_rest : ℕ → Wanted → ℕ
     limited_rest n t = v t - eg_base k n
 
-    pub limited_refused : (n : Refusal) → f ≡ stopped n → SaysCapped f cs (from s l (limited_s T k v) x cs)
+    pub limited_refused : (n : Refusal) → f ≡ stopped n → RefusedBy n (from s l (limited_s T k v) x cs)
     unfolding limited_s limited_test limited_ones limited_rest
     limited_refused n q =
         escaped_refused (28 - T) limited_ones limited_test (escape_length T k) (eg_base k) limited_rest s l x f F cs n q
 
-    module _ (n : ℕ) (y : Interval) (q : f ≡ step.Bin n y) (len : ℕ) (L : len ≡ escape_length T k n) where
+    module _ (n : ℕ) (y : Interval) (q : f ≡ got n y) (len : ℕ) (L : len ≡ escape_length T k n) where
       pub limited_stops : 32 < len → RefusedBy (refused_at 8 y) (from s l (limited_s T k v) x cs)
       unfolding limited_s limited_test limited_ones limited_rest
       limited_stops h =
@@ -259,14 +255,14 @@ module _ (s : Bool) (l : List ℕ) (T k : ℕ) (x : Interval) (f : Step)
         limited_bits : g ≡ step_of_bits (bits_from s l (escape_length T k n) y)
         limited_bits = G ∙ ap (λ c. step_of_bits (bits_from s l c y)) L
 
-        pub limited_short : (m : Refusal) → g ≡ stopped m → SaysCapped g cs (from s l (limited_s T k v) x cs)
+        pub limited_short : (m : Refusal) → g ≡ stopped m → RefusedBy m (from s l (limited_s T k v) x cs)
         unfolding limited_s limited_test limited_ones limited_rest
         limited_short m e =
             escaped_short (28 - T) limited_ones limited_test (escape_length T k) (eg_base k) limited_rest s l x f F cs n y q limited_fine
             (ones_readable s l (28 - T) x f F n y q h) g limited_bits m e
 
-        pub limited_got : (u : ℕ) (z : Interval) → g ≡ step.Bin u z → (r : ℕ) → r ≡ min (eg_base k n + u) most
-            → SaysCapped (step.Bin r z) cs (from s l (limited_s T k v) x cs)
+        pub limited_got : (u : ℕ) (z : Interval) → g ≡ got u z → (r : ℕ) → r ≡ min (eg_base k n + u) most
+            → SaysCapped (got r z) cs (from s l (limited_s T k v) x cs)
         unfolding limited_s limited_test limited_ones limited_rest
         limited_got u z e r p = (
           eg_base k n + u,
@@ -288,7 +284,7 @@ module _ (s : Bool) (l : List ℕ) (p : Params) (k : ℕ) (x : Interval) (v : Wa
       subst (SaysCapped r cs) (sym (ap (λ u. from s l u x cs) (passed p.extended (limited_s (log2_transform_range p) k v) (egk_s k v) q))) h
 
 -- ---- the whole remainder
-pub capped_ok : (r : Step) (v : ℕ) (y : Interval) (cs : List ℕ) (o : Out Cursor ℕ) → SaysCapped r cs o → r ≡ step.Bin v y
+pub capped_ok : (r : Step) (v : ℕ) (y : Interval) (cs : List ℕ) (o : Out Cursor ℕ) → SaysCapped r cs o → r ≡ got v y
     → (u : ℕ) × (v ≡ min u most) × (o ≡ Out.ok u (cursor y cs))
 capped_ok r v y cs o h q = subst (λ (z : Step). SaysCapped z cs o) q h
 
@@ -328,11 +324,11 @@ module _ (s : Bool) (l : List ℕ) (p : Params) (rice : ℕ) (x : Interval) (f :
   remainder_over : S ℕ
   remainder_over = escape_s p (rice + 1) remainder_high >>= λ u. done (4 * 2 ^ rice + u)
 
-  pub remainder_refused : (n : Refusal) → f ≡ stopped n → SaysCapped f cs (from s l (remainder_s p rice v) x cs)
+  pub remainder_refused : (n : Refusal) → f ≡ stopped n → RefusedBy n (from s l (remainder_s p rice v) x cs)
   unfolding remainder_s remainder_ones remainder_low remainder_high remainder_under remainder_over
   remainder_refused n q = ones_refused s l 4 x f F remainder_ones (λ q. pick (ltb q 4) (remainder_under q) remainder_over) cs n q
 
-  module _ (n : ℕ) (y : Interval) (q : f ≡ step.Bin n y) where
+  module _ (n : ℕ) (y : Interval) (q : f ≡ got n y) where
     remainder_few : n < 4 → from s l (remainder_s p rice v) x cs ≡ from s l (remainder_under n) y cs
     unfolding remainder_s remainder_ones remainder_low remainder_high remainder_under remainder_over
     remainder_few h =
@@ -347,19 +343,18 @@ module _ (s : Bool) (l : List ℕ) (p : Params) (rice : ℕ) (x : Interval) (f :
 
     -- under four ones
     module _ (few : n < 4) (h : Readable s l x) (g : Step) (G : g ≡ step_of_bits (bits_from s l rice y)) where
-      pub remainder_short : (m : Refusal) → g ≡ stopped m → SaysCapped g cs (from s l (remainder_s p rice v) x cs)
+      pub remainder_short : (m : Refusal) → g ≡ stopped m → RefusedBy m (from s l (remainder_s p rice v) x cs)
       unfolding remainder_under
       remainder_short m e =
-          subst (λ (z : Step). SaysCapped z cs (from s l (remainder_s p rice v) x cs)) (sym e)
           (refused_as m _ _ (remainder_few few)
           (suffix_refused s l rice y (ones_readable s l 4 x f F n y q h) g G (remainder_low n) (n * 2 ^ rice) cs m e))
 
-      pub remainder_low_fits : rice ≤ 21 → (u : ℕ) (z : Interval) → g ≡ step.Bin u z → (n * 2 ^ rice) % 4294967296 + u < 8388608
+      pub remainder_low_fits : rice ≤ 21 → (u : ℕ) (z : Interval) → g ≡ got u z → (n * 2 ^ rice) % 4294967296 + u < 8388608
       remainder_low_fits hr u z e =
           rw (under_shl rice hr n few) (under_small rice hr n u few (suffix_below s l rice y (ones_readable s l 4 x f F n y q h) g G u z e))
 
-      pub remainder_low_got : rice ≤ 21 → (u : ℕ) (z : Interval) → g ≡ step.Bin u z
-          → SaysCapped (step.Bin ((n * 2 ^ rice) % 4294967296 + u) z) cs (from s l (remainder_s p rice v) x cs)
+      pub remainder_low_got : rice ≤ 21 → (u : ℕ) (z : Interval) → g ≡ got u z
+          → SaysCapped (got ((n * 2 ^ rice) % 4294967296 + u) z) cs (from s l (remainder_s p rice v) x cs)
       unfolding remainder_under
       remainder_low_got hr u z e =
           let k = under_small rice hr n u few (suffix_below s l rice y (ones_readable s l 4 x f F n y q h) g G u z e) in (
@@ -371,17 +366,16 @@ module _ (s : Bool) (l : List ℕ) (p : Params) (rice : ℕ) (x : Interval) (f :
     -- behind four: g is what the escape's call answered
     module _ (all : 4 ≤ n) (g : Step)
         (G : (v : Wanted → ℕ) (cs : List ℕ) → SaysCapped g cs (from s l (escape_s p (rice + 1) v) y cs)) where
-      pub remainder_cut : (m : Refusal) → g ≡ stopped m → SaysCapped g cs (from s l (remainder_s p rice v) x cs)
+      pub remainder_cut : (m : Refusal) → g ≡ stopped m → RefusedBy m (from s l (remainder_s p rice v) x cs)
       unfolding remainder_over
       remainder_cut m e =
-          subst (λ (z : Step). SaysCapped z cs (from s l (remainder_s p rice v) x cs)) (sym e)
           (refused_as m _ _ (remainder_all all)
           (bind_no (by_code s l) (escape_s p (rice + 1) remainder_high) (λ u. done (4 * 2 ^ rice + u)) (cursor y cs) m
           (capped_no g m cs _ (G remainder_high cs) e)))
 
-      pub remainder_got : rice ≤ 21 → (u : ℕ) (z : Interval) → g ≡ step.Bin u z → (r : ℕ)
+      pub remainder_got : rice ≤ 21 → (u : ℕ) (z : Interval) → g ≡ got u z → (r : ℕ)
           → r ≡ min ((4 * 2 ^ rice) % 18446744073709551616 + u) most
-          → SaysCapped (step.Bin r z) cs (from s l (remainder_s p rice v) x cs)
+          → SaysCapped (got r z) cs (from s l (remainder_s p rice v) x cs)
       unfolding remainder_over
       remainder_got hr u z e r m =
           let c = capped_ok g u z cs _ (G remainder_high cs) e in

@@ -10,7 +10,7 @@ ghost use Rattle.hevc_remainder.specs.RemainderAgree.{SaysCapped};
 
 use bin_steps::seldom;
 use bin_steps::steps::decode_bypass_bits;
-use bins::state::{Interval, Step};
+use bins::state::{Interval, Refusal, Step, Taken};
 use exp_golomb::whole_of;
 use hevc_elements::shapes::ones;
 use hevc_magnitudes::magnitudes::{escape_length, range_bits};
@@ -32,21 +32,18 @@ fn exp_golomb(list: bool, k: u32, bytes: &[u8], x: Interval) -> Step
     requires { Readable list bytes.now x × (k ≤ 22) }
     ensures { (v : Wanted → ℕ) (contexts : List ℕ) → SaysCapped result contexts (from list bytes.now (egk_s k v) x contexts) }
 {
-    let f = ones(list, 31, bytes, x);
-    let Step::Bin(n, y) = f else {
-        return f;
-    };
+    let Taken { value: n, next: y } = ones(list, 31, bytes, x)?;
     if 31 <= n {
-        return Step::Refused(8, y);
+        return Err(Refusal { number: 8, at: y });
     }
     if 32 <= n + k {
-        return Step::Refused(8, y);
+        return Err(Refusal { number: 8, at: y });
     }
-    let g = seldom::decode_bypass_bits(list, bytes, y, n + k);
-    let Step::Bin(suffix, z) = g else {
-        return g;
-    };
-    Step::Bin(capped(whole_of(n, k, suffix)), z)
+    let suffix = seldom::decode_bypass_bits(list, bytes, y, n + k)?;
+    Ok(Taken {
+        value: capped(whole_of(n, k, suffix.value)),
+        next: suffix.next,
+    })
 }
 
 // The limited form of Exp-Golomb, under extended precision.
@@ -54,19 +51,16 @@ fn limited(list: bool, t: u32, k: u32, bytes: &[u8], x: Interval) -> Step
     requires { Readable list bytes.now x × (15 ≤ t) × (t ≤ 22) × (k ≤ 22) }
     ensures { (v : Wanted → ℕ) (contexts : List ℕ) → SaysCapped result contexts (from list bytes.now (limited_s t k v) x contexts) }
 {
-    let f = ones(list, 28 - t, bytes, x);
-    let Step::Bin(n, y) = f else {
-        return f;
-    };
+    let Taken { value: n, next: y } = ones(list, 28 - t, bytes, x)?;
     let length = escape_length(t, n, k);
     if 32 < length {
-        return Step::Refused(8, y);
+        return Err(Refusal { number: 8, at: y });
     }
-    let g = seldom::decode_bypass_bits(list, bytes, y, length);
-    let Step::Bin(suffix, z) = g else {
-        return g;
-    };
-    Step::Bin(capped(whole_of(n, k, suffix)), z)
+    let suffix = seldom::decode_bypass_bits(list, bytes, y, length)?;
+    Ok(Taken {
+        value: capped(whole_of(n, k, suffix.value)),
+        next: suffix.next,
+    })
 }
 
 // What follows four ones: rare, so its suffix is read by a call.
@@ -85,20 +79,17 @@ pub fn remainder(list: bool, p: Params, rice: u32, bytes: &[u8], x: Interval) ->
     requires { Readable list bytes.now x × (p.depth ≤ 16) × (rice ≤ 21) }
     ensures { (v : Wanted → ℕ) (contexts : List ℕ) → SaysCapped result contexts (from list bytes.now (remainder_s p rice v) x contexts) }
 {
-    let f = ones(list, 4, bytes, x);
-    let Step::Bin(q, y) = f else {
-        return f;
-    };
+    let Taken { value: q, next: y } = ones(list, 4, bytes, x)?;
     if q < 4 {
-        let g = decode_bypass_bits(list, bytes, y, rice);
-        let Step::Bin(suffix, z) = g else {
-            return g;
-        };
-        return Step::Bin((q << rice) + suffix, z);
+        let suffix = decode_bypass_bits(list, bytes, y, rice)?;
+        return Ok(Taken {
+            value: (q << rice) + suffix.value,
+            next: suffix.next,
+        });
     }
-    let h = escape(list, p, rice, bytes, y);
-    let Step::Bin(more, w) = h else {
-        return h;
-    };
-    Step::Bin(capped((4u64 << rice) + more as u64), w)
+    let more = escape(list, p, rice, bytes, y)?;
+    Ok(Taken {
+        value: capped((4u64 << rice) + more.value as u64),
+        next: more.next,
+    })
 }

@@ -1,15 +1,10 @@
 -- What the answers of the entry points say, with document 01's numbers, and the checks before a block is read, in its order.
-use Rattle.std.specs.Prelude.{ℕ, List, ℤ}
+use Rattle.std.specs.Prelude.{ℕ, List, ℤ, Result, Ok, Err}
 use Rattle.bins.specs.declared.state.Engine.{Engine}
 use Rattle.cabac.specs.Numbers.{Answer, accepted, refused, ◌or_else◌, payload_refusal, state_refusal, ended_refusal}
 use Rattle.hevc_residual.specs.declared.params.Params.{Params}
 use Rattle.hevc_residual.specs.declared.answers.Found.{Found}
-use Rattle.hevc_residual.specs.declared.answers.Read.{Read}
-use Rattle.hevc_residual.specs.declared.answers.Read.TheVariants as read
-use Rattle.hevc_residual.specs.declared.answers.ReadList.{ReadList}
-use Rattle.hevc_residual.specs.declared.answers.ReadList.TheVariants as readlist
-use Rattle.hevc_residual.specs.declared.answers.Written.{Written}
-use Rattle.hevc_residual.specs.declared.answers.Written.TheVariants as listed
+use Rattle.hevc_residual.specs.declared.answers.ReadBlock.{ReadBlock}
 use Rattle.hevc_residual.specs.Numbers.{parameter_refusal, contexts_refusal, statistics_refusal}
 use Rattle.hevc_residual.specs.Entries as entries
 use Rattle.hevc_residual.specs.Entries.{PayloadRead, BinsRead, BinsWritten}
@@ -18,14 +13,14 @@ use Rattle.hevc_residual.specs.Entries.{PayloadRead, BinsRead, BinsWritten}
 abbrev pub found_seen : Found → entries.Found
 found_seen f = record { skip = f.skip; rdpcm = f.rdpcm; column = f.column; row = f.row; greatest = f.greatest }
 
-abbrev pub payload_read : Read → List ℕ → List ℕ → List ℤ → PayloadRead
-payload_read (read.Block f e) contexts stats block =
-    record { answer = accepted (record { found = found_seen f; next = e }); contexts = contexts; stats = stats; block = block }
-payload_read (read.Refused n) contexts stats block = record { answer = refused n; contexts = contexts; stats = stats; block = block }
+abbrev pub payload_read : Result ReadBlock ℕ → List ℕ → List ℕ → List ℤ → PayloadRead
+payload_read (Ok b) contexts stats block =
+    record { answer = accepted (record { found = found_seen b.found; next = b.state }); contexts = contexts; stats = stats; block = block }
+payload_read (Err n) contexts stats block = record { answer = refused n; contexts = contexts; stats = stats; block = block }
 
-abbrev pub bins_read : ReadList → List ℕ → List ℤ → BinsRead
-bins_read (readlist.Block f) stats block = record { answer = accepted (found_seen f); stats = stats; block = block }
-bins_read (readlist.Refused n) stats block = record { answer = refused n; stats = stats; block = block }
+abbrev pub bins_read : Result Found ℕ → List ℕ → List ℤ → BinsRead
+bins_read (Ok f) stats block = record { answer = accepted (found_seen f); stats = stats; block = block }
+bins_read (Err n) stats block = record { answer = refused n; stats = stats; block = block }
 
 -- ---- the checks before it
 abbrev pub payload_checks : List ℕ → Engine → List ℕ → List ℕ → Params → List ℤ → ℕ
@@ -38,9 +33,9 @@ payload_checks l e contexts stats p block =
     or_else ended_refusal e
 
 -- ---- a list that is written
-abbrev pub written_says : Written → Answer ℕ
-written_says (listed.List n) = accepted n
-written_says (listed.Refused n) = refused n
+abbrev pub written_says : Result ℕ ℕ → Answer ℕ
+written_says (Ok n) = accepted n
+written_says (Err n) = refused n
 
-abbrev pub bins_written : Written → List ℕ → List ℕ → BinsWritten
+abbrev pub bins_written : Result ℕ ℕ → List ℕ → List ℕ → BinsWritten
 bins_written r stats room = record { answer = written_says r; stats = stats; room = room }

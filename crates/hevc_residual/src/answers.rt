@@ -1,9 +1,9 @@
-// The answers of the entry points that read and write a block.
+// The answers of the entry points that read and write a block: what was read or written, or the number of the refusal.
 use crate::params::Rdpcm;
 use bins::state::Engine;
 
 // What document 01 gives of a block, beside its levels.
-#[derive(Clone, Copy)]
+#[derive(Clone, Copy, PartialEq, Eq)]
 pub struct Found {
     pub skip: bool,
     pub rdpcm: Rdpcm,
@@ -13,23 +13,18 @@ pub struct Found {
     pub greatest: u32,
 }
 
-// A block with the state behind it, or the number of the refusal.
+// A block with the state behind it.
 #[derive(Clone, Copy)]
-pub enum Read {
-    Block(Found, Engine),
-    Refused(u32),
+pub struct ReadBlock {
+    pub found: Found,
+    pub state: Engine,
 }
 
-// A block, or the number of the refusal.
-#[derive(Clone, Copy)]
-pub enum ReadList {
-    Block(Found),
-    Refused(u32),
-}
+// A block from a payload, or the number of the refusal.
+pub type Read = Result<ReadBlock, u32>;
+
+// A block from a bin list, or the number of the refusal.
+pub type ReadList = Result<Found, u32>;
 
 // A list by its length, or the number of the refusal.
-#[derive(Clone, Copy)]
-pub enum Written {
-    List(usize),
-    Refused(u32),
-}
+pub type Written = Result<usize, u32>;

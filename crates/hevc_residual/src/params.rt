@@ -44,7 +44,7 @@ pub fn all_off(log2: u32, luma: bool, scan: u32, depth: u32, hiding: bool) -> Pa
 }
 
 // Explicit RDPCM: an enum, since a number above 2 would be no choice of the syntax.
-#[derive(Clone, Copy)]
+#[derive(Clone, Copy, PartialEq, Eq)]
 pub enum Rdpcm {
     None, // explicit_rdpcm_flag is 0, or not coded
     Horizontal, // explicit_rdpcm_dir_flag is 0

@@ -1,5 +1,5 @@
 -- greater1Ctx behind a bin, and the tree of the greater1 bins by what is left of the places. Assumes nothing.
-use Rattle.std.specs.Prelude.{ℕ, zero, suc, ◌+◌, ◌-◌, ◌≤◌, ◌<◌, min, ◌≡◌, refl, Bool, true, false, ◌&&◌, List, [], ◌∷◌, ◌++◌, ℤ, ltb, eqb}
+use Rattle.std.specs.Prelude.{ℕ, zero, suc, ◌+◌, ◌≤◌, ◌<◌, min, ◌≡◌, refl, Bool, true, false, ◌&&◌, List, [], ◌∷◌, ◌++◌, ℤ, ltb, eqb}
 use Rattle.std.proofs.Common.{sym, ◌∙◌, arith, ne_eqb, lt-ltb, le-ltb}
 use Rattle.std.proofs.Math.Path.{ap}
 use Rattle.std.proofs.Math.Bool.{cond}
@@ -7,7 +7,6 @@ use Rattle.bins.specs.Syn.{done, bin, ◌>>=◌}
 use Rattle.hevc_residual.specs.Wanted.{Wanted, S, is_big}
 use Rattle.hevc_residual.specs.SubBlock.{Greater1, greater1_s, greater1_ctx_next}
 use Rattle.hevc_places.specs.Packing.{unmask}
-use Rattle.hevc_rules.specs.GreaterAgree.{none}
 
 -- ---- greater1Ctx behind a bin
 pub carry_zero : (b c : ℕ) → b ≡ 1 → 0 ≡ greater1_ctx_next (eqb b 1) c

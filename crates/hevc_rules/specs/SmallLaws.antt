@@ -1,5 +1,5 @@
 -- The small choices of a sub-block's code. Assumes nothing.
-use Rattle.std.specs.Prelude.{ℕ, suc, ◌+◌, ◌-◌, ◌*◌, ◌%◌, ◌≤◌, ◌<◌, ◌≡◌, refl, Bool, true, false, not, ◌||◌, cond, List, [], ◌∷◌, get_or, eqb}
+use Rattle.std.specs.Prelude.{ℕ, suc, ◌+◌, ◌*◌, ◌%◌, ◌≤◌, ◌<◌, ◌≡◌, refl, Bool, true, false, not, ◌||◌, cond, List, [], ◌∷◌, get_or, eqb}
 use Rattle.std.proofs.Common.{sym, ap, ◌∙◌, arith, mod-eq_of_lt, mul-le-mul_right, lt-ltb, le-ltb, eq-eqb, ne_eqb}
 use Rattle.bins.specs.Engine.{bit_no}
 use Rattle.hevc_residual.specs.Layout.{at_coded_sub_block, in_chroma}

@@ -1,5 +1,5 @@
 -- What settles a sub-block: its neighbours, its flag, the places met, ctxSet, the last one.
-use Rattle.std.specs.Prelude.{ℕ, ◌+◌, ◌*◌, ◌/◌, ◌%◌, ◌^◌, ◌≤◌, ◌<◌, ◌≡◌, Bool, true, false, not, ◌&&◌, ◌||◌, cond, List, [], ◌∷◌, get_or, ltb, eqb}
+use Rattle.std.specs.Prelude.{ℕ, ◌+◌, ◌*◌, ◌/◌, ◌%◌, ◌^◌, ◌≤◌, ◌<◌, ◌≡◌, Bool, true, false, not, ◌&&◌, cond, List, [], ◌∷◌, get_or, ltb, eqb}
 use Rattle.bins.specs.Engine.{bit_no}
 use Rattle.bins.specs.Syn.{done, bin}
 use Rattle.hevc_residual.specs.declared.params.Params.{Params}

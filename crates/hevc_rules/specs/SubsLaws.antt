@@ -1,5 +1,5 @@
 -- The tree of one sub-block, by its parts. Assumes nothing.
-use Prim.Native.Nat.{ℕ, ◌+◌, ◌-◌, ◌*◌, ◌≤◌, ◌<◌}
+use Prim.Native.Nat.{ℕ, ◌+◌, ◌*◌, ◌≤◌, ◌<◌}
 use Rattle.std.specs.Prelude.{◌≡◌, refl, not, ◌&&◌, ◌||◌, List, [], ◌∷◌, ℤ, get_or, ltb, leb, eqb}
 use Rattle.std.proofs.Common.{sym, ◌∙◌, le-ltb, eq-eqb, eqb-true}
 use Rattle.std.proofs.Math.Path.{ap, ap₂}

@@ -15,12 +15,8 @@ fn is_coded(coded: &[bool], w: u32, xs: u32, ys: u32) -> u32
     requires { (length coded.now ≡ w * w) × (w ≤ 8) }
     ensures { result ≡ bit_no (coded_at coded.now w xs ys) }
 {
-    if xs < w {
-        if ys < w {
-            if coded[(ys * w + xs) as usize] {
-                return 1;
-            }
-        }
+    if xs < w && ys < w && coded[(ys * w + xs) as usize] {
+        return 1;
     }
     0
 }
@@ -36,7 +32,7 @@ pub fn neighbours_of(coded: &[bool], w: u32, xs: u32, ys: u32) -> u32
 pub fn is_middle(i: u32, last: u32) -> bool
     ensures { result ≡ (ltb 0 i && ltb i last) }
 {
-    if 0 < i { i < last } else { false }
+    0 < i && i < last
 }
 
 // The context of coded_sub_block_flag by its neighbours (9.3.4.2.4).
@@ -55,13 +51,7 @@ pub fn flag_number(luma: bool, neighbours: u32) -> usize
 pub fn is_single(p: Params, skip: bool) -> bool
     ensures { result ≡ (p.skip_context && skip_or_bypass p skip) }
 {
-    if p.skip_context {
-        if skip {
-            return true;
-        }
-        return p.lossless;
-    }
-    false
+    p.skip_context && (skip || p.lossless)
 }
 
 // Places read before the first flag: the last significant one, in the last sub-block.

@@ -1,6 +1,6 @@
 -- The scale's two readers: what they are handed looked at, and the tree read, as their code does it. Assumes nothing.
 use Prim.Native.Nat.{ℕ, zero, suc, ◌≤◌, ◌<◌}
-use Rattle.std.specs.Prelude.{◌≡◌, refl, Bool, cond, ltb, ℤ}
+use Rattle.std.specs.Prelude.{◌≡◌, refl, Bool, cond, ltb, ℤ, Result, Ok, Err}
 use Rattle.std.proofs.Math.Path.{sym, ap, subst}
 use Rattle.std.proofs.Common.{◌∙◌, arith, to_z, of_z, ltb-false, lt-ltb, le-ltb}
 use Rattle.std.proofs.Math.Bool.{true, false}
@@ -15,7 +15,7 @@ use Rattle.bins.specs.Bits.{ends, past_most}
 use Rattle.bins.specs.Engine.{place}
 use Rattle.bins.specs.Interval.{place_of, opened, settled, Goes}
 use Rattle.bins.specs.Syn.{Out, run, by_engine, by_list}
-use Rattle.bins.specs.Sources.{Cursor, cursor, refused_at}
+use Rattle.bins.specs.Sources.{Cursor, cursor}
 use Rattle.bins.specs.Laws.{map_out}
 use Rattle.bins.specs.CodeLaws.{Packed}
 use Rattle.bins.specs.EngineRuns.{runs_goes}
@@ -28,15 +28,12 @@ use Rattle.hevc_elements.specs.Agree.{Reads, from, reads_on}
 use Rattle.hevc_checks.specs.ChecksAgree.{above_refusal}
 use Rattle.hevc_checks.specs.ChecksLaws.{above_contexts, contexts_packed}
 use Rattle.hevc_scale_syntax.specs.declared.syntax.Scaled.{Scaled}
-use Rattle.hevc_scale_syntax.specs.declared.syntax.Scaled.TheVariants as scaled
-use Rattle.hevc_scale.specs.declared.entries.Read.TheVariants as read
-use Rattle.hevc_scale.specs.declared.entries.ReadList.TheVariants as readlist
 use Rattle.hevc_cross.specs.Scale.{scale_s}
 use Rattle.hevc_cross.specs.Entries.{component_refusal, read_by_engine, read_payload_by, read_payload, read_from_list, read_bins_by, read_bins}
 use Rattle.hevc_cross.specs.ScaleLaws.{scale_any}
 use Rattle.hevc_scale_syntax.specs.Agree.{nothing, SaysScale}
 use Rattle.hevc_scale_syntax.specs.CodeLaws.{scale_stays}
-use Rattle.hevc_scale.specs.EntriesAgree.{payload_read, bins_read, payload_checks, scaled_no}
+use Rattle.hevc_scale.specs.EntriesAgree.{payload_read, bins_read, payload_checks, found}
 
 -- ---- 4
 pub component_high : (c : ℕ) → 1 < c → 4 ≡ component_refusal c
@@ -54,9 +51,6 @@ component_passed c q = go (ltb 1 c) refl q
     go : (b : Bool) → ltb 1 c ≡ b → ◌≡◌ {A = ℕ} 0 (cond b 4 0) → c ≤ 1
     go true e q = absurd (omega arith)
     go false e q = ltb-false 1 c e
-
-pub scaled_number : (r : Scaled) (m : Refusal) (n : ℕ) → r ≡ scaled.Refused m → n ≡ scaled_no r → r ≡ scaled.Refused (refused_at n m.at)
-scaled_number r m n q e = q ∙ ap (λ k. scaled.Refused (refused_at k m.at)) (sym (e ∙ ap scaled_no q))
 
 -- ---- 6
 not_ended : (e : Engine) (b : Bool) → e.ended ≡ b → 0 ≡ ended_refusal e → e.ended ≡ false
@@ -108,13 +102,13 @@ module _ (l : List ℕ) (e : Engine) (contexts : List ℕ) (c : ℕ) where
         pub checks_five : 0 ≡ above_refusal 127 contexts → (n : ℕ) → n ≡ ended_refusal e → n ≡ payload_checks l e contexts c
         checks_five z₄ n q = or_else_rest n c₁ _ z₁ (or_else_rest n c₂ _ z₂ (or_else_rest n c₃ _ z₃ (or_else_rest n c₄ c₅ (z₄ ∙ above_contexts contexts) q)))
 
-  pub payload_no_lem : (n : ℕ) → n ≡ payload_checks l e contexts c → (n ≡ 0 → ⊥) → payload_read (read.Refused n) contexts ≡ read_payload l e contexts c
+  pub payload_no_lem : (n : ℕ) → n ≡ payload_checks l e contexts c → (n ≡ 0 → ⊥) → payload_read (Err n) contexts ≡ read_payload l e contexts c
   unfolding read_payload
   payload_no_lem n q h = go (payload_checks l e contexts c) q
     where
-      go : (k : ℕ) → n ≡ k → payload_read (read.Refused n) contexts ≡ read_payload_by k l e contexts c
+      go : (k : ℕ) → n ≡ k → payload_read (Err n) contexts ≡ read_payload_by k l e contexts c
       go zero u = absurd (h u)
-      go (suc k) u = unfold read_payload_by in ap (λ m. payload_read (read.Refused m) contexts) u
+      go (suc k) u = unfold read_payload_by in ap (λ m. payload_read (Err m) contexts) u
 
   module _ (q : 0 ≡ payload_checks l e contexts c) where
     pub checks_passed : Passed l e contexts c
@@ -140,30 +134,30 @@ module _ (l : List ℕ) (e : Engine) (contexts : List ℕ) (c : ℕ) where
         (scale_any (by_engine l) c (λ z. z) nothing (record { engine = e; contexts = contexts }) ∙ run_opened l e (scale_s nothing c) contexts checks_passed.fits checks_passed.counts)
 
     -- r is what the reading answered
-    module _ (r : Scaled) (contexts' : List ℕ) (s : SaysScale r contexts' (from false l (scale_s nothing c) (opened e) contexts)) where
-      pub payload_refused : (n : ℕ) {at : Interval} → r ≡ scaled.Refused (refused_at n at) → payload_read (read.Refused n) contexts ≡ read_payload l e contexts c
+    module _ (r : Result Scaled Refusal) (contexts' : List ℕ) (s : SaysScale r contexts' (from false l (scale_s nothing c) (opened e) contexts)) where
+      pub payload_refused : (m : Refusal) → r ≡ Err m → payload_read (Err m.number) contexts ≡ read_payload l e contexts c
       unfolding read_by_engine
-      payload_refused n u =
-          let w = subst (λ (z : Scaled). SaysScale z contexts' (from false l (scale_s nothing c) (opened e) contexts)) u s in
+      payload_refused m u =
+          let w = subst (λ (z : Result Scaled Refusal). SaysScale z contexts' (from false l (scale_s nothing c) (opened e) contexts)) u s in
           sym (left_to_read ∙ ap (λ (o : Out Cursor ℤ). read_by_engine contexts (map_out (seen l e) o)) w.1)
 
-      pub payload_got : (z : ℤ) (y : Interval) → r ≡ scaled.Got z y → (d : Engine) → d ≡ settled l e y → payload_read (read.Scale (to_z w32 (of_z w32 z)) d) contexts' ≡ read_payload l e contexts c
+      pub payload_got : (t : Scaled) → r ≡ Ok t → (d : Engine) → d ≡ settled l e t.next → payload_read (found (to_z w32 (of_z w32 t.scale)) d) contexts' ≡ read_payload l e contexts c
       unfolding read_by_engine
-      payload_got z y u d v =
-          let w = subst (λ (z : Scaled). SaysScale z contexts' (from false l (scale_s nothing c) (opened e) contexts)) u s in
-          ap (λ (i : ℤ). payload_read (read.Scale i d) contexts') (scale_stays false l (opened e) contexts c z (cursor y contexts') w)
-          ∙ ap (λ (t : Engine). payload_read (read.Scale z t) contexts') v
+      payload_got t u d v =
+          let w = subst (λ (z : Result Scaled Refusal). SaysScale z contexts' (from false l (scale_s nothing c) (opened e) contexts)) u s in
+          ap (λ (i : ℤ). payload_read (found i d) contexts') (scale_stays false l (opened e) contexts c t.scale (cursor t.next contexts') w)
+          ∙ ap (λ (d : Engine). payload_read (found t.scale d) contexts') v
           ∙ sym (left_to_read ∙ ap (λ (o : Out Cursor ℤ). read_by_engine contexts (map_out (seen l e) o)) w)
 
 -- ---- a bin list
 module _ (l : List ℕ) (c : ℕ) where
-  pub bins_no : (n : ℕ) → n ≡ component_refusal c → (n ≡ 0 → ⊥) → bins_read (readlist.Refused n) ≡ read_bins l c
+  pub bins_no : (n : ℕ) → n ≡ component_refusal c → (n ≡ 0 → ⊥) → bins_read (Err n) ≡ read_bins l c
   unfolding read_bins
   bins_no n q h = go (component_refusal c) q
     where
-      go : (k : ℕ) → n ≡ k → bins_read (readlist.Refused n) ≡ read_bins_by k l c
+      go : (k : ℕ) → n ≡ k → bins_read (Err n) ≡ read_bins_by k l c
       go zero u = absurd (h u)
-      go (suc k) u = unfold read_bins_by in ap (λ m. bins_read (readlist.Refused m)) u
+      go (suc k) u = unfold read_bins_by in ap (λ m. bins_read (Err m)) u
 
   module _ (q : 0 ≡ component_refusal c) (x : Interval) (front : place_of x ≡ 0) (contexts : List ℕ) where
     list_to_read : read_bins l c ≡ read_from_list (map_out (left l) (from true l (scale_s nothing c) x contexts))
@@ -172,30 +166,30 @@ module _ (l : List ℕ) (c : ℕ) where
         ap (λ n. read_bins_by n l c) (sym q)
         ∙ ap read_from_list (scale_any by_list c (λ z. z) nothing l ∙ ap (λ k. run by_list (scale_s nothing c) (drop k l)) (sym front) ∙ run_listed l (scale_s nothing c) x contexts)
 
-    module _ (r : Scaled) (contexts' : List ℕ) (s : SaysScale r contexts' (from true l (scale_s nothing c) x contexts)) where
-      pub bins_refused : (n : ℕ) {at : Interval} → r ≡ scaled.Refused (refused_at n at) → bins_read (readlist.Refused n) ≡ read_bins l c
+    module _ (r : Result Scaled Refusal) (contexts' : List ℕ) (s : SaysScale r contexts' (from true l (scale_s nothing c) x contexts)) where
+      pub bins_refused : (m : Refusal) → r ≡ Err m → bins_read (Err m.number) ≡ read_bins l c
       unfolding read_from_list
-      bins_refused n u =
-          let w = subst (λ (z : Scaled). SaysScale z contexts' (from true l (scale_s nothing c) x contexts)) u s in
+      bins_refused m u =
+          let w = subst (λ (z : Result Scaled Refusal). SaysScale z contexts' (from true l (scale_s nothing c) x contexts)) u s in
           sym (list_to_read ∙ ap (λ (o : Out Cursor ℤ). read_from_list (map_out (left l) o)) w.1)
 
-      module _ (z : ℤ) (y : Interval) (u : r ≡ scaled.Got z y) where
-        w : from true l (scale_s nothing c) x contexts ≡ Out.ok z (cursor y contexts')
-        w = subst (λ (z : Scaled). SaysScale z contexts' (from true l (scale_s nothing c) x contexts)) u s
+      module _ (t : Scaled) (u : r ≡ Ok t) where
+        w : from true l (scale_s nothing c) x contexts ≡ Out.ok t.scale (cursor t.next contexts')
+        w = subst (λ (z : Result Scaled Refusal). SaysScale z contexts' (from true l (scale_s nothing c) x contexts)) u s
 
-        got : read_bins l c ≡ read_from_list (Out.ok z (drop (place_of y) l))
-        got = list_to_read ∙ ap (λ (o : Out Cursor ℤ). read_from_list (map_out (left l) o)) w
+        went : read_bins l c ≡ read_from_list (Out.ok t.scale (drop (place_of t.next) l))
+        went = list_to_read ∙ ap (λ (o : Out Cursor ℤ). read_from_list (map_out (left l) o)) w
 
-        pub bins_got : place_of y ≡ length l → bins_read (readlist.Scale (to_z w32 (of_z w32 z))) ≡ read_bins l c
+        pub bins_got : place_of t.next ≡ length l → bins_read (Ok (to_z w32 (of_z w32 t.scale))) ≡ read_bins l c
         unfolding read_from_list
         bins_got h =
-            let d : drop (place_of y) l ≡ [] = drop_of_length-le l {i = place_of y} (omega arith) in
-            ap (λ (i : ℤ). bins_read (readlist.Scale i)) (scale_stays true l x contexts c z (cursor y contexts') w)
-            ∙ sym (got ∙ ap (λ (m : List ℕ). read_from_list (Out.ok z m)) d)
+            let d : drop (place_of t.next) l ≡ [] = drop_of_length-le l {i = place_of t.next} (omega arith) in
+            ap (λ (i : ℤ). bins_read (Ok i)) (scale_stays true l x contexts c t.scale (cursor t.next contexts') w)
+            ∙ sym (went ∙ ap (λ (m : List ℕ). read_from_list (Out.ok t.scale m)) d)
 
-        pub bins_over : Reads true l x contexts → (place_of y ≡ length l → ⊥) → bins_read (readlist.Refused 13) ≡ read_bins l c
+        pub bins_over : Reads true l x contexts → (place_of t.next ≡ length l → ⊥) → bins_read (Err 13) ≡ read_bins l c
         unfolding read_from_list
         bins_over g h =
-            let k : place_of y ≤ length l = (reads_on true l (scale_s nothing c) x contexts z y contexts' w g).0 in
-            let d : drop (place_of y) l ≡ get_or l (place_of y) 0 ∷ drop (suc (place_of y)) l = drop-cons l (place_of y) 0 (omega arith) in
-            sym (got ∙ ap (λ (m : List ℕ). read_from_list (Out.ok z m)) d)
+            let k : place_of t.next ≤ length l = (reads_on true l (scale_s nothing c) x contexts t.scale t.next contexts' w g).0 in
+            let d : drop (place_of t.next) l ≡ get_or l (place_of t.next) 0 ∷ drop (suc (place_of t.next)) l = drop-cons l (place_of t.next) 0 (omega arith) in
+            sym (went ∙ ap (λ (m : List ℕ). read_from_list (Out.ok t.scale m)) d)

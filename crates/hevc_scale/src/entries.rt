@@ -2,7 +2,7 @@
 // Each takes anything: what is not accepted is answered by its number.
 ghost use Rattle.std.specs.Prelude.{◌≡◌};
 ghost use Rattle.hevc_cross.specs.Entries.{component_refusal, read_payload, read_bins};
-ghost use Rattle.hevc_scale.specs.EntriesAgree.{payload_read, bins_read, payload_checks, scaled_no};
+ghost use Rattle.hevc_scale.specs.EntriesAgree.{payload_read, bins_read, payload_checks};
 
 use bins::places::SourcePlace;
 use bins::state::{Engine, Interval};
@@ -10,22 +10,21 @@ use bins::tags::CONTEXTS;
 use cabac_checks::checks::{payload_refusal, state_refusal};
 use cabac_state::engine::{open, settle};
 use hevc_checks::checks::above_refusal;
-use hevc_scale_syntax::syntax::Scaled;
+use hevc_scale_syntax::syntax;
 use tables::decision_table;
 
-// A scale with the state behind it, or the number of the refusal.
+// A scale, and the state behind it.
 #[derive(Clone, Copy)]
-pub enum Read {
-    Scale(i32, Engine),
-    Refused(u32),
+pub struct FoundScale {
+    pub scale: i32,
+    pub next: Engine,
 }
 
+// A scale found, or the number of the refusal.
+pub type Read = Result<FoundScale, u32>;
+
 // A scale, or the number of the refusal.
-#[derive(Clone, Copy)]
-pub enum ReadList {
-    Scale(i32),
-    Refused(u32),
-}
+pub type ReadList = Result<i32, u32>;
 
 // 4: chroma component 0 or 1
 #[tactic(auto, unfolding(hevc_cross::specs::Entries::component_refusal))]
@@ -64,48 +63,37 @@ fn payload_checks(bytes: &[u8], e: Engine, contexts: &[u8], component: u32) -> u
     0
 }
 
-fn scaled_refusal(r: Scaled) -> u32
-    ensures { result ≡ scaled_no r }
-{
-    match r {
-        Scaled::Got(_, _) => 0,
-        Scaled::Refused(r) => r.number,
-    }
-}
-
 // The scale of a chroma component, from a payload. A refusal leaves the contexts as they were.
 pub fn read_scale(bytes: &[u8], e: Engine, contexts: &mut [u8; CONTEXTS], component: u32) -> Read
     ensures { payload_read result contexts.new ≡ read_payload bytes.now e contexts.old component }
 {
     let n = payload_checks(bytes, e, contexts, component);
     if n != 0 {
-        return Read::Refused(n);
+        return Err(n);
     }
     let table = decision_table();
     let mut cs = *contexts;
-    let r = hevc_scale_syntax::syntax::read_scale(
-        false,
-        &table,
-        &mut cs,
-        component as usize,
-        bytes,
-        open(e),
-    );
-    let Scaled::Got(z, x) = r else {
-        return Read::Refused(scaled_refusal(r));
-    };
-    *contexts = cs;
-    let state = settle(bytes, e, x);
-    Read::Scale(z, state)
+    let r = syntax::read_scale(false, &table, &mut cs, component as usize, bytes, open(e));
+    match r {
+        Ok(found) => {
+            *contexts = cs;
+            let state = settle(bytes, e, found.next);
+            Ok(FoundScale {
+                scale: found.scale,
+                next: state,
+            })
+        }
+        Err(refusal) => Err(refusal.number),
+    }
 }
 
 // The same from a bin list, which it must end.
 pub fn read_scale_bins(bytes: &[u8], component: u32) -> ReadList
     ensures { bins_read result ≡ read_bins bytes.now component }
 {
-    let n = component_refusal(component);
-    if n != 0 {
-        return ReadList::Refused(n);
+    let refused = component_refusal(component);
+    if refused != 0 {
+        return Err(refused);
     }
     let table = decision_table();
     let mut contexts = [0u8; CONTEXTS];
@@ -114,7 +102,7 @@ pub fn read_scale_bins(bytes: &[u8], component: u32) -> ReadList
         offset: 0,
         position: SourcePlace(0),
     };
-    let r = hevc_scale_syntax::syntax::read_scale(
+    let r = syntax::read_scale(
         true,
         &table,
         &mut contexts,
@@ -122,12 +110,14 @@ pub fn read_scale_bins(bytes: &[u8], component: u32) -> ReadList
         bytes,
         front,
     );
-    let Scaled::Got(z, x) = r else {
-        return ReadList::Refused(scaled_refusal(r));
-    };
-    let at = x.position;
-    if at.0 != bytes.len() {
-        return ReadList::Refused(13);
+    match r {
+        Ok(found) => {
+            let at = found.next.position;
+            if at.0 != bytes.len() {
+                return Err(13);
+            }
+            Ok(found.scale)
+        }
+        Err(refusal) => Err(refusal.number),
     }
-    ReadList::Scale(z)
 }

@@ -5,11 +5,9 @@ use Rattle.std.proofs.Common.{sym, ap, subst, ◌∙◌, arith, SFits, to_z, of_
 use Rattle.std.specs.Int.{w32}
 use Rattle.bins.specs.declared.state.Interval.{Interval}
 use Rattle.bins.specs.declared.state.Refusal.{Refusal}
-use Rattle.bins.specs.declared.state.Step.{Step}
-use Rattle.bins.specs.declared.state.Step.TheVariants as step
 use Rattle.bins.specs.Syn.{done, bin, ◌>>=◌, Out}
 use Rattle.bins.specs.Readers.{flag_if, prefix_s}
-use Rattle.bins.specs.Sources.{Cursor, cursor, by_code}
+use Rattle.bins.specs.Sources.{Cursor, cursor, by_code, Step, got}
 use Rattle.bins.specs.Laws.{RefusedBy}
 use Rattle.hevc_residual.specs.Wanted.{Wanted, S, negative}
 use Rattle.hevc_residual.specs.Remainder.{signed}
@@ -39,7 +37,7 @@ module _ (s : Bool) (l : List ℕ) (x : Interval) (cs : List ℕ) (c : ℕ) wher
   begun h = record { reads = h; left = refl }
 
   module _ (r : Step) (es : List ℕ) (e : (w : ℕ → Wanted → Bool) → Says r es (from s l (prefix_s (at_value + 4 * c) 0 4 0 w) x cs)) where
-    pub value_few : (v : ℕ) (z : Interval) → r ≡ step.Bin v z → v ≤ 4
+    pub value_few : (v : ℕ) (z : Interval) → r ≡ got v z → v ≤ 4
     value_few v z q =
         (each_run (by_code s l) (prefix_few {B = Wanted} (at_value + 4 * c) 0 4 0 (λ g t. false) 4 (omega arith)) (cursor x cs) v (cursor z es)
         (says_ok r v z es _ (e (λ g t. false)) q)).1
@@ -69,7 +67,7 @@ module _ (s : Bool) (l : List ℕ) (x : Interval) (cs : List ℕ) (c : ℕ) wher
       (sign_left v y ds h) refl refl r es e in
       record {
         ok = λ b z q. (a.ok b z q).left ∙ run_done s l (signed (eqb b 1) (magnitude (suc v))) z es;
-        no = λ m n q u. a.no m n q u;
+        no = a.no;
       }
 
 -- ---- a magnitude as the code shifts it, and its sign

@@ -7,15 +7,15 @@ ghost use Rattle.hevc_cross.specs.Scale.{magnitude, scale_s};
 ghost use Rattle.hevc_scale_syntax.specs.Agree.{SaysScale, nothing};
 
 use crate::layout::{SIGN, VALUE};
-use bins::state::{Interval, Refusal, Step, refusal_of};
+use bins::state::{Interval, Refusal, Taken};
 use bins::tags::CONTEXTS;
 use hevc_elements::shapes::{context_bin, prefix};
 
-// A scale with the interval behind it, or the number of the refusal.
+// A scale, and the interval behind it.
 #[derive(Clone, Copy)]
-pub enum Scaled {
-    Got(i32, Interval),
-    Refused(Refusal),
+pub struct Scaled {
+    pub scale: i32,
+    pub next: Interval,
 }
 
 // The magnitude of a value that is not 0.
@@ -45,20 +45,18 @@ pub fn read_scale(
     component: usize,
     bytes: &[u8],
     x: Interval,
-) -> Scaled
+) -> Result<Scaled, Refusal>
     requires { Reads list bytes.now x contexts.old × (component ≤ 1) × (table.now ≡ decisions) }
     ensures { SaysScale result contexts.new (from list bytes.now (scale_s nothing component) x contexts.old) }
 {
-    let s = prefix(list, table, contexts, VALUE + 4 * component, 0, 4, bytes, x);
-    let Step::Bin(v, y) = s else {
-        return Scaled::Refused(refusal_of(s));
-    };
+    let first = VALUE + 4 * component;
+    let Taken { value: v, next: y } = prefix(list, table, contexts, first, 0, 4, bytes, x)?;
     if v == 0 {
-        return Scaled::Got(0, y);
+        return Ok(Scaled { scale: 0, next: y });
     }
-    let t = context_bin(list, table, contexts, SIGN + component, bytes, y);
-    let Step::Bin(b, z) = t else {
-        return Scaled::Refused(refusal_of(t));
-    };
-    Scaled::Got(signed_of(v, b), z)
+    let Taken { value: b, next } = context_bin(list, table, contexts, SIGN + component, bytes, y)?;
+    Ok(Scaled {
+        scale: signed_of(v, b),
+        next,
+    })
 }

@@ -16,12 +16,11 @@ pub fn write_scale_bins(component: u32, scale: i32, room: &mut [u8]) -> Written
 {
     let n = component_refusal(component);
     if n != 0 {
-        return Written::Refused(n);
+        return Err(n);
     }
-    let v = value(scale);
-    if v == 5 {
-        return Written::Refused(4);
-    }
+    let Some(v) = value(scale) else {
+        return Err(4);
+    };
     let sign = is_negative(scale);
     let count = Pen {
         at: 0,
@@ -30,7 +29,7 @@ pub fn write_scale_bins(component: u32, scale: i32, room: &mut [u8]) -> Written
     };
     let counted = put_scale(room, count, component as usize, v, sign);
     if counted.over {
-        return Written::Refused(12);
+        return Err(12);
     }
     let write = Pen {
         at: 0,
@@ -38,5 +37,5 @@ pub fn write_scale_bins(component: u32, scale: i32, room: &mut [u8]) -> Written
         writing: true,
     };
     let written = put_scale(room, write, component as usize, v, sign);
-    Written::List(written.at)
+    Ok(written.at)
 }

@@ -11,29 +11,22 @@ use hevc_scale_syntax::layout::{SIGN, VALUE};
 use level_sizes::sizes::magnitude;
 use pen::room::{Pen, put_bin};
 
-// The value of a magnitude; 5 of one that no scale has.
-fn value_of(m: u32) -> u32
+// The value of a magnitude; none of one that no scale has.
+#[tactic(auto, unfolding(crate::specs::WriteAgree::value_of))]
+fn value_of(m: u32) -> Option<u32>
     ensures { result ≡ value_of m }
 {
-    if m == 0 {
-        return 0;
+    match m {
+        0 => Some(0),
+        1 => Some(1),
+        2 => Some(2),
+        4 => Some(3),
+        8 => Some(4),
+        _ => None,
     }
-    if m == 1 {
-        return 1;
-    }
-    if m == 2 {
-        return 2;
-    }
-    if m == 4 {
-        return 3;
-    }
-    if m == 8 {
-        return 4;
-    }
-    5
 }
 
-pub fn value(scale: i32) -> u32
+pub fn value(scale: i32) -> Option<u32>
     ensures { result ≡ value_of (nat_abs scale) }
 {
     value_of(magnitude(scale))

@@ -5,27 +5,9 @@ ghost use Rattle.hevc_scans.specs.Pairs.{pairs_of, Orders, Begins};
 
 const DIAGONAL2: [[u8; 2]; 4] = [[0, 0], [0, 1], [1, 0], [1, 1]];
 
-fn diagonal2() -> [[u8; 2]; 4]
-    ensures { result ≡ pairs_of (scan_order 2 0) }
-{
-    DIAGONAL2
-}
-
 const ROWS2: [[u8; 2]; 4] = [[0, 0], [1, 0], [0, 1], [1, 1]];
 
-fn rows2() -> [[u8; 2]; 4]
-    ensures { result ≡ pairs_of (scan_order 2 1) }
-{
-    ROWS2
-}
-
 const COLUMNS2: [[u8; 2]; 4] = [[0, 0], [0, 1], [1, 0], [1, 1]];
-
-fn columns2() -> [[u8; 2]; 4]
-    ensures { result ≡ pairs_of (scan_order 2 2) }
-{
-    COLUMNS2
-}
 
 // Of a 2x2 grid.
 fn two_wide(scan: u32) -> [[u8; 2]; 4]
@@ -33,9 +15,9 @@ fn two_wide(scan: u32) -> [[u8; 2]; 4]
     ensures { result ≡ pairs_of (scan_order 2 scan) }
 {
     match scan {
-        0 => diagonal2(),
-        1 => rows2(),
-        _ => columns2(),
+        0 => DIAGONAL2,
+        1 => ROWS2,
+        _ => COLUMNS2,
     }
 }
 
@@ -58,12 +40,6 @@ const DIAGONAL4: [[u8; 2]; 16] = [
     [3, 3],
 ];
 
-fn diagonal4() -> [[u8; 2]; 16]
-    ensures { result ≡ pairs_of (scan_order 4 0) }
-{
-    DIAGONAL4
-}
-
 const ROWS4: [[u8; 2]; 16] = [
     [0, 0],
     [1, 0],
@@ -82,12 +58,6 @@ const ROWS4: [[u8; 2]; 16] = [
     [2, 3],
     [3, 3],
 ];
-
-fn rows4() -> [[u8; 2]; 16]
-    ensures { result ≡ pairs_of (scan_order 4 1) }
-{
-    ROWS4
-}
 
 const COLUMNS4: [[u8; 2]; 16] = [
     [0, 0],
@@ -108,21 +78,15 @@ const COLUMNS4: [[u8; 2]; 16] = [
     [3, 3],
 ];
 
-fn columns4() -> [[u8; 2]; 16]
-    ensures { result ≡ pairs_of (scan_order 4 2) }
-{
-    COLUMNS4
-}
-
 // Of the 16 places of a sub-block.
 pub fn inner_order(scan: u32) -> [[u8; 2]; 16]
     requires { scan ≤ 2 }
     ensures { result ≡ pairs_of (scan_order 4 scan) }
 {
     match scan {
-        0 => diagonal4(),
-        1 => rows4(),
-        _ => columns4(),
+        0 => DIAGONAL4,
+        1 => ROWS4,
+        _ => COLUMNS4,
     }
 }
 
@@ -193,12 +157,6 @@ const DIAGONAL8: [[u8; 2]; 64] = [
     [7, 7],
 ];
 
-fn diagonal8() -> [[u8; 2]; 64]
-    ensures { result ≡ pairs_of (scan_order 8 0) }
-{
-    DIAGONAL8
-}
-
 const ROWS8: [[u8; 2]; 64] = [
     [0, 0],
     [1, 0],
@@ -265,12 +223,6 @@ const ROWS8: [[u8; 2]; 64] = [
     [6, 7],
     [7, 7],
 ];
-
-fn rows8() -> [[u8; 2]; 64]
-    ensures { result ≡ pairs_of (scan_order 8 1) }
-{
-    ROWS8
-}
 
 const COLUMNS8: [[u8; 2]; 64] = [
     [0, 0],
@@ -339,21 +291,15 @@ const COLUMNS8: [[u8; 2]; 64] = [
     [7, 7],
 ];
 
-fn columns8() -> [[u8; 2]; 64]
-    ensures { result ≡ pairs_of (scan_order 8 2) }
-{
-    COLUMNS8
-}
-
 // Of an 8x8 grid.
 fn eight_wide(scan: u32) -> [[u8; 2]; 64]
     requires { scan ≤ 2 }
     ensures { result ≡ pairs_of (scan_order 8 scan) }
 {
     match scan {
-        0 => diagonal8(),
-        1 => rows8(),
-        _ => columns8(),
+        0 => DIAGONAL8,
+        1 => ROWS8,
+        _ => COLUMNS8,
     }
 }
 
@@ -363,11 +309,7 @@ fn widened(few: &[[u8; 2]]) -> [[u8; 2]; 64]
     ensures { Begins few.now result }
 {
     let mut all = [[0u8; 2]; 64];
-    let mut i = 0;
-    while i < few.len() {
-        all[i] = few[i];
-        i += 1;
-    }
+    all[..few.len()].copy_from_slice(few);
     all
 }
 

@@ -1,5 +1,5 @@
--- Sizes by log2, one after the other. Assumes nothing.
-use Rattle.std.specs.Prelude.{ℕ, ◌-◌, ◌^◌, ◌≤◌, ◌≡◌}
+-- Sizes by log2, one after the other and as the code's shifts make them. Assumes nothing.
+use Rattle.std.specs.Prelude.{ℕ, zero, suc, ◌-◌, ◌*◌, ◌%◌, ◌^◌, ◌≤◌, ◌≡◌, refl}
 use Rattle.std.proofs.Common.{sym, ap, arith}
 
 -- ---- how many sub-blocks
@@ -40,3 +40,28 @@ area_four n q = ap (λ k. 4 ^ k) (sym q)
 
 pub area_five : (n : ℕ) → (2 ≤ n) × (n ≤ 5) → (n ≡ 2 → ⊥) → (n ≡ 3 → ⊥) → (n ≡ 4 → ⊥) → 1024 ≡ 4 ^ n
 area_five n h a b c = let q : 5 ≡ n = omega arith in ap (λ k. 4 ^ k) q
+
+-- ---- as shifts
+-- the four sizes
+by_size : (P : ℕ → Type 0) → P 2 → P 3 → P 4 → P 5 → (n : ℕ) → (2 ≤ n) × (n ≤ 5) → P n
+by_size P a b c d zero h = absurd (omega arith)
+by_size P a b c d (suc zero) h = absurd (omega arith)
+by_size P a b c d (suc (suc zero)) h = a
+by_size P a b c d (suc (suc (suc zero))) h = b
+by_size P a b c d (suc (suc (suc (suc zero)))) h = c
+by_size P a b c d (suc (suc (suc (suc (suc zero))))) h = d
+by_size P a b c d (suc (suc (suc (suc (suc (suc n)))))) h = absurd (omega arith)
+
+-- how many sub-blocks stand in a row
+pub width_shl : (n : ℕ) → (2 ≤ n) × (n ≤ 5) → (1 * 2 ^ (n - 2)) % 4294967296 ≡ 2 ^ (n - 2)
+width_shl = by_size (λ n. (1 * 2 ^ (n - 2)) % 4294967296 ≡ 2 ^ (n - 2)) refl refl refl refl
+
+-- how many sub-blocks
+pub grid_shl : (n : ℕ) → (2 ≤ n) × (n ≤ 5) → ((1 * 2 ^ (2 * (n - 2))) % 18446744073709551616 ≡ 4 ^ (n - 2)) × ((1 * 2 ^ (2 * (n - 2))) % 18446744073709551616 ≤ 64)
+grid_shl =
+    by_size (λ n. ((1 * 2 ^ (2 * (n - 2))) % 18446744073709551616 ≡ 4 ^ (n - 2)) × ((1 * 2 ^ (2 * (n - 2))) % 18446744073709551616 ≤ 64))
+    (refl, omega arith) (refl, omega arith) (refl, omega arith) (refl, omega arith)
+
+-- n·n of an accepted size
+pub area_shl : (n : ℕ) → (2 ≤ n) × (n ≤ 5) → (1 * 2 ^ (2 * n)) % 18446744073709551616 ≡ 4 ^ n
+area_shl = by_size (λ n. (1 * 2 ^ (2 * n)) % 18446744073709551616 ≡ 4 ^ n) refl refl refl refl

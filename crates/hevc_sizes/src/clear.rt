@@ -6,9 +6,5 @@ pub fn clear(block: &mut [i32], n: usize)
     requires { n ≤ length block.old }
     ensures { block.new ≡ replicate n (pos 0) ++ drop n block.old }
 {
-    let mut i: usize = 0;
-    while i < n {
-        block[i] = 0;
-        i += 1;
-    }
+    block[..n].fill(0);
 }

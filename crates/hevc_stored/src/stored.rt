@@ -49,12 +49,6 @@ pub fn is_free(block: &[i32], at: usize) -> bool
     block[at] == 0
 }
 
-fn both(a: bool, b: bool) -> bool
-    ensures { result ≡ (a && b) }
-{
-    if a { b } else { false }
-}
-
 // What is told behind a level of magnitude m at a place that was free or was not.
 pub fn stored_behind(k: Stored, free: bool, m: u32, at: u32) -> Stored
     ensures { result ≡ stored_of k free m at }
@@ -62,7 +56,7 @@ pub fn stored_behind(k: Stored, free: bool, m: u32, at: u32) -> Stored
     Stored {
         greatest: larger(k.greatest, m),
         far: larger(k.far, at),
-        clean: both(k.clean, free),
+        clean: k.clean && free,
     }
 }
 

@@ -3,18 +3,17 @@ use Rattle.std.specs.Prelude.{ℕ, ◌≡◌, refl, Bool, true, false, List, ℤ
 use Rattle.std.proofs.Common.{ap, ◌∙◌, arith}
 use Rattle.std.proofs.lemmas.List.{length-replicate}
 use Rattle.bins.specs.declared.state.Interval.{Interval}
-use Rattle.bins.specs.declared.state.Step.{Step}
-use Rattle.bins.specs.declared.state.Step.TheVariants as step
 use Rattle.bins.specs.Syn.{done, bin}
 use Rattle.hevc_residual.specs.declared.params.Params.{Params}
 use Rattle.hevc_residual.specs.Wanted.{Wanted, area}
 use Rattle.hevc_elements.specs.Agree.{from, SaysFlag}
 use Rattle.hevc_elements.specs.ShapeLaws.{run_done}
 use Rattle.hevc_rules.specs.SubsAgree.{flag_or}
+use Rattle.bins.specs.Sources.{Step, got}
 
 -- ---- a flag that is 1 where it is not coded
 pub flag_or_no : (s : Bool) (l : List ℕ) (k : ℕ) (x : Interval) (cs : List ℕ) (middle : Bool) (w : Wanted → Bool) → middle ≡ false
-    → SaysFlag (step.Bin 1 x) cs (from s l (flag_or middle k w) x cs)
+    → SaysFlag (got 1 x) cs (from s l (flag_or middle k w) x cs)
 flag_or_no s l k x cs true w q = let z : ◌≡◌ {A = ℕ} 0 1 = cc in absurd (omega arith)
 flag_or_no s l k x cs false w q = (true, refl, run_done s l true x cs)
 

@@ -13,9 +13,9 @@ ghost use Rattle.hevc_rules.specs.CoeffsAgree.{Carries};
 ghost use Rattle.hevc_stored.specs.StoredAgree.{Keeps};
 ghost use Rattle.hevc_subblock.specs.CarriedKeeps.{KeepsOn};
 ghost use Rattle.hevc_rules.specs.SubsAgree.{flag_or};
-ghost use Rattle.hevc_sub_blocks.specs.SubsAgree.{placed_refusal, SaysSub};
+ghost use Rattle.hevc_sub_blocks.specs.SubsAgree.{SaysSub};
 
-use bins::state::{Interval, Refusal, Step, refusal_of};
+use bins::state::{Interval, Refusal, Step, Taken};
 use bins::tags::CONTEXTS;
 use hevc_elements::shapes::context_bin;
 use hevc_head_rules::head::Head;
@@ -27,7 +27,7 @@ use hevc_rules::subs::{
 };
 use hevc_stored::stored::Stored;
 use hevc_subblock::coeffs::{Carried, coeffs};
-use hevc_subblock::places::{Placed, significance};
+use hevc_subblock::places::significance;
 
 // coded_sub_block_flag, coded strictly between first and last; elsewhere 1.
 fn coded_flag(
@@ -45,16 +45,7 @@ fn coded_flag(
     if middle {
         return context_bin(list, table, contexts, number, bytes, x);
     }
-    Step::Bin(1, x)
-}
-
-fn placed_refusal(p: Placed) -> Refusal
-    ensures { result ≡ placed_refusal p }
-{
-    match p {
-        Placed::Got(_, y) => Refusal { number: 0, at: y },
-        Placed::Refused(r) => r,
-    }
+    Ok(Taken { value: 1, next: x })
 }
 
 // One sub-block. What is lent is apart, since each function over a struct that held it would be walked by hand: source and table, contexts, scan, flags, levels, statistics.
@@ -80,29 +71,23 @@ pub fn sub_block(
     c: Carry,
     k: Stored,
     x: Interval,
-) -> Carried
+) -> Result<Carried, Refusal>
     requires { Reads list bytes.now x contexts.old × (table.now ≡ decisions) × (order.now ≡ pairs_of (inner_of p)) × (w ≡ width p) × Site p xs ys × (length coded.old ≡ width p * width p) × (length block.old ≡ area p) × (t ≡ log2_transform_range p) × Statistics stats.old × Carries c × (get_or (outer_of p) i (spot 0 0) ≡ spot xs ys) × (lastin ≤ 15) × (i ≤ last) × (p.log2 ≡ 2 → i ≡ last) × Keeps p k block.old }
     ensures { (length coded.new ≡ width p * width p) × (length block.new ≡ area p) × Statistics stats.new × SaysSub p h list bytes.now last lastin i c x contexts.old coded.old block.old stats.old result contexts.new coded.new block.new stats.new × KeepsOn p result block.new }
 {
     let neighbours = neighbours_of(coded, w, xs, ys);
     let middle = is_middle(i, last);
-    let f = coded_flag(
-        middle,
-        list,
-        table,
-        contexts,
-        flag_number(p.luma, neighbours),
-        bytes,
-        x,
-    );
-    let Step::Bin(flag, x1) = f else {
-        return Carried::Refused(refusal_of(f));
-    };
-    if flag == 0 {
-        return Carried::Got(c, k, x1);
+    let number = flag_number(p.luma, neighbours);
+    let flag = coded_flag(middle, list, table, contexts, number, bytes, x)?;
+    if flag.value == 0 {
+        return Ok(Carried {
+            carry: c,
+            stored: k,
+            next: flag.next,
+        });
     }
     coded[(ys * w + xs) as usize] = true;
-    let r = significance(
+    let placed = significance(
         list,
         table,
         contexts,
@@ -111,13 +96,15 @@ pub fn sub_block(
         middle,
         places_below(i, last, lastin),
         met(i, last, lastin),
-        x1,
-    );
-    let Placed::Got(s, x2) = r else {
-        return Carried::Refused(placed_refusal(r));
-    };
+        flag.next,
+    )?;
+    let s = placed.places;
     if s.count == 0 {
-        return Carried::Got(c, k, x2);
+        return Ok(Carried {
+            carry: c,
+            stored: k,
+            next: placed.next,
+        });
     }
     coeffs(
         list,
@@ -136,6 +123,6 @@ pub fn sub_block(
         s,
         c,
         k,
-        x2,
+        placed.next,
     )
 }

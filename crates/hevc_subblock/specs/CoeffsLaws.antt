@@ -1,6 +1,6 @@
 -- The levels of a sub-block as their code reads them, call after call. Assumes nothing.
 use Prim.Native.Nat.{ℕ, suc, ◌+◌, ◌-◌, ◌*◌, ◌/◌, ◌%◌, ◌^◌, ◌≤◌, ◌<◌, min}
-use Rattle.std.specs.Prelude.{◌≡◌, true, false, not, ◌&&◌, cond, ℤ, pos, nat_abs, length, get_or, set, eqb}
+use Rattle.std.specs.Prelude.{◌≡◌, true, false, not, ◌&&◌, cond, ℤ, pos, nat_abs, length, get_or, set, eqb, Result, Ok, Err}
 use Rattle.std.proofs.Common.{sym, subst, ◌∙◌, arith}
 use Rattle.std.proofs.Math.Path.{ap}
 use Rattle.std.proofs.Math.Bool.{Bool}
@@ -9,12 +9,11 @@ use Rattle.std.proofs.Math.Dec.{ltb}
 use Rattle.std.specs.Int.Count.{ones}
 use Rattle.bins.specs.declared.state.Interval.{Interval}
 use Rattle.bins.specs.declared.state.Refusal.{Refusal}
-use Rattle.bins.specs.declared.state.Step.{Step}
-use Rattle.bins.specs.declared.state.Step.TheVariants as step
+use Rattle.bins.specs.declared.state.Taken.{Taken}
 use Rattle.bins.specs.Engine.{bit_no}
 use Rattle.bins.specs.Syn.{done, align, ◌>>=◌, took, refused, Out}
 use Rattle.bins.specs.Readers.{flag_if}
-use Rattle.bins.specs.Sources.{Cursor, cursor, with_contexts, by_code, align_from, bits_from, step_of, step_of_bits, Readable, stopped, refusal_of}
+use Rattle.bins.specs.Sources.{Cursor, cursor, with_contexts, by_code, align_from, bits_from, step_of, step_of_bits, Readable, stopped, Step, got}
 use Rattle.bins.specs.Laws.{RefusedBy, run_align, run_align_no, After}
 use Rattle.bins.specs.CodeLaws.{from_align}
 use Rattle.bins.specs.StepLaws.{step_took, step_refused}
@@ -32,12 +31,8 @@ use Rattle.hevc_head.specs.HeadLaws.{Behind, behind_ok, behind_no, behind_flag_l
 use Rattle.hevc_places.specs.declared.places.Places.{Places}
 use Rattle.hevc_level_rules.specs.StartLaws.{start_of, start_fits}
 use Rattle.hevc_subblock.specs.declared.greater.Greater.{Greater}
-use Rattle.hevc_subblock.specs.declared.greater.Greaters.{Greaters}
-use Rattle.hevc_subblock.specs.declared.greater.Greaters.TheVariants as greaters
 use Rattle.hevc_rules.specs.declared.levels.Going.{Going}
-use Rattle.hevc_stored.specs.declared.stored.Stored.{Stored}
 use Rattle.hevc_levels.specs.declared.levels.Leveled.{Leveled}
-use Rattle.hevc_levels.specs.declared.levels.Leveled.TheVariants as leveled
 use Rattle.hevc_rules.specs.declared.coeffs.Carry.{Carry}
 use Rattle.hevc_places.specs.Packing.{Packs, unpack, unmask}
 use Rattle.hevc_places.specs.PackingLaws.{unmask_count}
@@ -46,7 +41,7 @@ use Rattle.hevc_subblock.specs.GreaterAgree.{SaysGreater}
 use Rattle.hevc_rules.specs.LevelsAgree.{Fine, going_s}
 use Rattle.hevc_levels.specs.LevelsAgree.{SaysAll}
 use Rattle.hevc_rules.specs.CoeffsAgree.{Carries, acc_of, coeffs_of, hides}
-use Rattle.hevc_subblock.specs.CoeffsAgree.{aligned_if, greaters_refusal, leveled_refusal}
+use Rattle.hevc_subblock.specs.CoeffsAgree.{aligned_if}
 use Rattle.hevc_rules.specs.CoeffsLaws.{mask_any, levels_of, all_of, levels_left, signs_left, align_left, flag_left, coeffs_parts, places_all, places_many}
 
 pub eight_few : (n m : ℕ) → n ≡ min 8 m → n ≤ 8
@@ -59,37 +54,37 @@ module _ (due s : Bool) (l : List ℕ) (x : Interval) where
   pub aligned_due : due ≡ true → (r : Step) → r ≡ step_of x (align_from s l x) → r ≡ aligned_if due s l x
   aligned_due q r e = e ∙ ap (λ i. aligned_if i s l x) (sym q)
 
-  pub aligned_not : due ≡ false → step.Bin 0 x ≡ aligned_if due s l x
+  pub aligned_not : due ≡ false → got 0 x ≡ aligned_if due s l x
   aligned_not q = ap (λ i. aligned_if i s l x) (sym q)
 
 -- ---- what an answer leads to
 pub record Answered (r : Step) (T : ℕ → Interval → Type 0) (N : Refusal → Type 0) : Type 0 where
-  pub ok : (v : ℕ) (z : Interval) → r ≡ step.Bin v z → T v z
-  pub no : (m n : Refusal) → r ≡ stopped m → n ≡ refusal_of r → N n
+  pub ok : (v : ℕ) (z : Interval) → r ≡ got v z → T v z
+  pub no : (n : Refusal) → r ≡ stopped n → N n
 
-pub record AnsweredBins (r : Greaters) (T : Greater → Interval → Type 0) (N : Refusal → Type 0) : Type 0 where
-  pub ok : (g : Greater) (z : Interval) → r ≡ greaters.Got g z → T g z
-  pub no : (m n : Refusal) → r ≡ greaters.Refused m → n ≡ greaters_refusal r → N n
+pub record AnsweredBins (r : Result Greater Refusal) (T : Greater → Interval → Type 0) (N : Refusal → Type 0) : Type 0 where
+  pub ok : (g : Greater) → r ≡ Ok g → T g g.next
+  pub no : (n : Refusal) → r ≡ Err n → N n
 
-pub record AnsweredLevels (r : Leveled) (T : Going → Interval → Type 0) (N : Refusal → Type 0) : Type 0 where
-  pub ok : (g : Going) (k : Stored) (z : Interval) → r ≡ leveled.Got g k z → T g z
-  pub no : (m n : Refusal) → r ≡ leveled.Refused m → n ≡ leveled_refusal r → N n
+pub record AnsweredLevels (r : Result Leveled Refusal) (T : Going → Interval → Type 0) (N : Refusal → Type 0) : Type 0 where
+  pub ok : (v : Leveled) → r ≡ Ok v → T v.going v.next
+  pub no : (n : Refusal) → r ≡ Err n → N n
 
-bins_ok : (n : ℕ) (r : Greaters) (g : Greater) (z : Interval) (es : List ℕ) (o : Out Cursor Greater1) → SaysGreater n r es o → r ≡ greaters.Got g z
-    → (g.mask < 2 ^ n) × (g.carry ≤ 3) × (o ≡ Out.ok (record { bins = unmask g.mask n; greater1_ctx = g.carry }) (cursor z es))
-bins_ok n r g z es o h q = subst (λ (i : Greaters). SaysGreater n i es o) q h
+bins_ok : (n : ℕ) (r : Result Greater Refusal) (g : Greater) (es : List ℕ) (o : Out Cursor Greater1) → SaysGreater n r es o → r ≡ Ok g
+    → (g.mask < 2 ^ n) × (g.carry ≤ 3) × (o ≡ Out.ok (record { bins = unmask g.mask n; greater1_ctx = g.carry }) (cursor g.next es))
+bins_ok n r g es o h q = subst (λ (i : Result Greater Refusal). SaysGreater n i es o) q h
 
-bins_no : (n : ℕ) (r : Greaters) (m : Refusal) (es : List ℕ) (o : Out Cursor Greater1) → SaysGreater n r es o → r ≡ greaters.Refused m → RefusedBy m o
-bins_no n r m es o h q = subst (λ (i : Greaters). SaysGreater n i es o) q h
+bins_no : (n : ℕ) (r : Result Greater Refusal) (m : Refusal) (es : List ℕ) (o : Out Cursor Greater1) → SaysGreater n r es o → r ≡ Err m → RefusedBy m o
+bins_no n r m es o h q = subst (λ (i : Result Greater Refusal). SaysGreater n i es o) q h
 
-levels_ok : (p : Params) (at : Spot) (list : Bool) (l : List ℕ) (g2 : Bool) (signs : ℕ) (g : Going) (y : Interval) (levels : List ℤ) (r : Leveled) (after : List ℤ)
-    (e : Going) (k : Stored) (z : Interval) → SaysAll p at list l g2 signs g y levels r after → r ≡ leveled.Got e k z
-    → SaysAll p at list l g2 signs g y levels (leveled.Got e k z) after
-levels_ok p at list l g2 signs g y levels r after e k z h q = subst (λ (i : Leveled). SaysAll p at list l g2 signs g y levels i after) q h
+levels_ok : (p : Params) (at : Spot) (list : Bool) (l : List ℕ) (g2 : Bool) (signs : ℕ) (g : Going) (y : Interval) (levels : List ℤ) (r : Result Leveled Refusal) (after : List ℤ)
+    (v : Leveled) → SaysAll p at list l g2 signs g y levels r after → r ≡ Ok v
+    → SaysAll p at list l g2 signs g y levels (Ok v) after
+levels_ok p at list l g2 signs g y levels r after v h q = subst (λ (i : Result Leveled Refusal). SaysAll p at list l g2 signs g y levels i after) q h
 
-levels_no : (p : Params) (at : Spot) (list : Bool) (l : List ℕ) (g2 : Bool) (signs : ℕ) (g : Going) (y : Interval) (levels : List ℤ) (r : Leveled) (after : List ℤ)
-    (m : Refusal) → SaysAll p at list l g2 signs g y levels r after → r ≡ leveled.Refused m → SaysAll p at list l g2 signs g y levels (leveled.Refused m) after
-levels_no p at list l g2 signs g y levels r after m h q = subst (λ (i : Leveled). SaysAll p at list l g2 signs g y levels i after) q h
+levels_no : (p : Params) (at : Spot) (list : Bool) (l : List ℕ) (g2 : Bool) (signs : ℕ) (g : Going) (y : Interval) (levels : List ℤ) (r : Result Leveled Refusal) (after : List ℤ)
+    (m : Refusal) → SaysAll p at list l g2 signs g y levels r after → r ≡ Err m → SaysAll p at list l g2 signs g y levels (Err m) after
+levels_no p at list l g2 signs g y levels r after m h q = subst (λ (i : Result Leveled Refusal). SaysAll p at list l g2 signs g y levels i after) q h
 
 -- ---- alignment, where it is due
 module _ {A : Type 0} (s : Bool) (l : List ℕ) (whole : S A) (x : Interval) (cs : List ℕ) (t : S A) (y : Interval) (ds : List ℕ) where
@@ -115,16 +110,16 @@ module _ {A : Type 0} (s : Bool) (l : List ℕ) (whole : S A) (x : Interval) (cs
               reads = (g, h.reads.1);
               left = h.left ∙ run_align (by_code s l) t (cursor y ds) d.0 (cursor z ds) (on_align_lem d.0 z d.2);
             };
-        no = λ m n q u.
+        no = λ m q.
             let d = step_refused y (align_from s l y) r m e q in
-            let i : m ≡ n = sym (u ∙ ap refusal_of q) in
-            subst (λ k. RefusedBy k (from s l whole x cs)) i
             (ds, h.left ∙ run_align_no (by_code s l) t (cursor y ds) m.number (on_align_no m.number d.0) ∙ ap (λ (z : Interval). Out.no m.number (cursor z ds)) d.1);
       }
   behind_align false h r e =
       record {
-        ok = λ v z q. let i : y ≡ z = cc in subst (λ u. Behind s l whole x cs t u ds) i h;
-        no = λ m n q u. let z : ◌≡◌ {A = ℕ} 0 1 = cc in absurd (omega arith);
+        ok = λ v z q.
+            let k : ◌≡◌ {A = Taken} (record { value = 0; next = y }) (record { value = v; next = z }) = cc in
+            subst (λ u. Behind s l whole x cs t u ds) (ap (λ (t : Taken). t.next) k) h;
+        no = λ m q. let z : ◌≡◌ {A = ℕ} 0 1 = cc in absurd (omega arith);
       }
 
 -- ---- call after call
@@ -184,7 +179,7 @@ module _ (p : Params) (h : Head) (at : Spot) (list : Bool) (l : List ℕ) (ctxSe
 
   module _ (some : 0 < s.count) where
     -- coeff_abs_level_greater1_flag
-    module _ (d : Reads list l x cs) (base n : ℕ) (u : base ≡ at_greater1 + 4 * ctxSet + in_chroma p.luma 16) (m : n ≡ min 8 s.count) (r : Greaters)
+    module _ (d : Reads list l x cs) (base n : ℕ) (u : base ≡ at_greater1 + 4 * ctxSet + in_chroma p.luma 16) (m : n ≡ min 8 s.count) (r : Result Greater Refusal)
         (es : List ℕ)
         (e : (lv : ℕ → Wanted → ℤ) (ks : List ℕ) → min 8 (length ks) ≡ n → SaysGreater n r es (from list l (greater1_s lv base 8 ks none) x cs)) where
       bins_say_lem : (lv : ℕ → Wanted → ℤ) → SaysGreater (min 8 s.count) r es (from list l (bins_of lv) x cs)
@@ -197,16 +192,14 @@ module _ (p : Params) (h : Head) (at : Spot) (list : Bool) (l : List ℕ) (ctxSe
       pub read_bins_lem : AnsweredBins r (λ g z. (g.mask < 2 ^ min 8 s.count) × (g.carry ≤ 3) × Left (to_flag g.mask g.carry) z es) NoLevels
       read_bins_lem =
           record {
-            ok = λ g z q.
-                let f : (lv : ℕ → Wanted → ℤ) → _ = λ lv. bins_ok (min 8 s.count) r g z es (from list l (bins_of lv) x cs) (bins_say_lem lv) q in (
+            ok = λ g q.
+                let f : (lv : ℕ → Wanted → ℤ) → _ = λ lv. bins_ok (min 8 s.count) r g es (from list l (bins_of lv) x cs) (bins_say_lem lv) q in (
                   (f any_levels).0,
                   (f any_levels).1,
                   λ lv coded.
-                      behind_ok list l (whole lv coded) x cs (bins_of lv) (behind_bins lv coded) x cs (begun d lv coded) (marked g.mask g.carry) z es (f lv).2,
+                      behind_ok list l (whole lv coded) x cs (bins_of lv) (behind_bins lv coded) x cs (begun d lv coded) (marked g.mask g.carry) g.next es (f lv).2,
                 );
-            no = λ m n q u lv coded.
-                let i : m ≡ n = sym (u ∙ ap greaters_refusal q) in
-                subst (λ k. RefusedBy k (from list l (whole lv coded) x cs)) i
+            no = λ m q lv coded.
                 (behind_no list l (whole lv coded) x cs (bins_of lv) (behind_bins lv coded) x cs (begun d lv coded) m
                 (bins_no (min 8 s.count) r m es (from list l (bins_of lv) x cs) (bins_say_lem lv) q));
           }
@@ -226,7 +219,7 @@ module _ (p : Params) (h : Head) (at : Spot) (list : Bool) (l : List ℕ) (ctxSe
           (at_greater2 + ctxSet + in_chroma p.luma 4) k (w lv) (λ g2. to_align mask carry g2 lv coded) y ds (d lv coded) (mask_any (min 8 s.count) mask small) u r es e in
           record {
             ok = λ v z q lv coded. (f lv coded).ok v z q;
-            no = λ m n q u lv coded. (f lv coded).no m n q u;
+            no = λ m q lv coded. (f lv coded).no m q;
           }
 
       module _ (g2 : Bool) where
@@ -248,7 +241,7 @@ module _ (p : Params) (h : Head) (at : Spot) (list : Bool) (l : List ℕ) (ctxSe
             (e ∙ ap (λ i. aligned_if i list l y) (u ∙ o)) in
             record {
               ok = λ v z q lv coded. (f lv coded).ok v z q;
-              no = λ m n q u lv coded. (f lv coded).no m n q u;
+              no = λ m q lv coded. (f lv coded).no m q;
             }
 
         -- coeff_sign_flag
@@ -266,7 +259,7 @@ module _ (p : Params) (h : Head) (at : Spot) (list : Bool) (l : List ℕ) (ctxSe
             o r e in
             record {
               ok = λ v z q lv coded. (f lv coded).ok v z q;
-              no = λ m n q u lv coded. (f lv coded).no m n q u;
+              no = λ m q lv coded. (f lv coded).no m q;
             }
 
         -- the levels; the code's words for what they start from
@@ -330,7 +323,7 @@ module _ (p : Params) (h : Head) (at : Spot) (list : Bool) (l : List ℕ) (ctxSe
               (subst (λ t. RefusedBy m (from list l t y ds)) (going_is lv coded) q)
 
           -- r is what the loop answered, with the block behind it
-          pub read_levels : (r : Leveled) (after : List ℤ) → SaysAll p at list l g2 signs start y levels r after
+          pub read_levels : (r : Result Leveled Refusal) (after : List ℤ) → SaysAll p at list l g2 signs start y levels r after
               → AnsweredLevels r
               (λ g z. Fine p g
               × ((lv : ℕ → Wanted → ℤ) (coded : List Bool) → from list l (coeffs_of p h at lv ctxSet s (acc_of c coded levels stats)) x cs
@@ -338,11 +331,9 @@ module _ (p : Params) (h : Head) (at : Spot) (list : Bool) (l : List ℕ) (ctxSe
               NoLevels
           read_levels r after e =
               record {
-                ok = λ g k z q.
-                    let f = levels_ok p at list l g2 signs start y levels r after g k z e q in
-                    (f.0, λ lv coded. all_ok g z after lv coded (f.2 lv ds));
-                no = λ m n q u lv coded.
-                    let i : m ≡ n = sym (u ∙ ap leveled_refusal q) in
-                    subst (λ k. RefusedBy k (from list l (whole lv coded) x cs)) i
+                ok = λ v q.
+                    let f = levels_ok p at list l g2 signs start y levels r after v e q in
+                    (f.0, λ lv coded. all_ok v.going v.next after lv coded (f.2 lv ds));
+                no = λ m q lv coded.
                     (all_no m lv coded (levels_no p at list l g2 signs start y levels r after m e q lv ds));
               }

@@ -4,11 +4,9 @@ use Rattle.std.proofs.Math.Path.{refl}
 use Rattle.std.proofs.Common.{sym, ap, subst, ◌∙◌, arith, add-one, drop_of_length-le, drop-cons, ltb-true, ltb-false}
 use Rattle.bins.specs.declared.state.Interval.{Interval}
 use Rattle.bins.specs.declared.state.Refusal.{Refusal}
-use Rattle.bins.specs.declared.state.Step.{Step}
-use Rattle.bins.specs.declared.state.Step.TheVariants as step
 use Rattle.bins.specs.Engine.{bit_no}
 use Rattle.bins.specs.Syn.{done, bin, ◌>>=◌, Out}
-use Rattle.bins.specs.Sources.{cursor, by_code, stopped, refusal_of}
+use Rattle.bins.specs.Sources.{cursor, by_code, stopped, Step, got}
 use Rattle.bins.specs.Laws.{RefusedBy, bind_ok, bind_no}
 use Rattle.hevc_residual.specs.Wanted.{Wanted, is_big}
 use Rattle.hevc_residual.specs.SubBlock.{greater1_s, greater1_ctx_next}
@@ -70,15 +68,15 @@ module _ (s : Bool) (l : List ℕ) (base n : ℕ) where
 
       -- r is what the bin answered, es the contexts behind it
       module _ (r : Step) (es : List ℕ) (e : (w : Wanted → Bool) → SaysFlag r es (from s l (bin (base + carry) w done) y ds)) where
-        pub marking_refused : (v : Refusal) → r ≡ stopped v → (u : Refusal) → u ≡ refusal_of r → (lv : ℕ → Wanted → ℤ) (ks : List ℕ) → min 8 (length ks) ≡ n
-            → RefusedBy u (from s l (greater1_s lv base 8 ks none) x cs)
-        marking_refused v q u p lv ks m =
+        pub marking_refused : (v : Refusal) → r ≡ stopped v → (lv : ℕ → Wanted → ℤ) (ks : List ℕ) → min 8 (length ks) ≡ n
+            → RefusedBy v (from s l (greater1_s lv base 8 ks none) x cs)
+        marking_refused v q lv ks m =
             let w : Wanted → Bool = λ t. is_big lv t (get_or ks j 0) in
             let f = bind_no (by_code s l) (bin (base + carry) w done) (on_from lv base (8 - suc j) (drop (suc j) ks) (marked mask j carry)) (cursor y ds) v
             (flag_no_lem r v es _ (e w) q) in
-            subst (λ z. RefusedBy z (from s l (greater1_s lv base 8 ks none) x cs)) (sym (p ∙ ap refusal_of q)) (f.0, next_left lv ks m ∙ f.1)
+            (f.0, next_left lv ks m ∙ f.1)
 
-        module _ (v : ℕ) (z : Interval) (q : r ≡ step.Bin v z) where
+        module _ (v : ℕ) (z : Interval) (q : r ≡ got v z) where
           pub marking_bit : v ≤ 1
           marking_bit = let f = flag_ok r v z es _ (e (λ t. false)) q in bit_most v f.0 f.1
 

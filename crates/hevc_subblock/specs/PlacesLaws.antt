@@ -1,14 +1,12 @@
 -- The significance loop as its code goes: what is left to run, and one lemma for each way out. Assumes nothing.
 use Rattle.std.specs.Prelude.{ℕ, suc, ◌+◌, ◌-◌, ◌≤◌, ◌<◌, ◌≡◌, refl, Bool, true, false, cond, ◌&&◌, List, [], ◌∷◌, ◌++◌, ℤ, eqb}
-use Rattle.std.proofs.Common.{sym, subst, ◌∙◌}
+use Rattle.std.proofs.Common.{sym, ◌∙◌}
 use Rattle.std.proofs.Math.Path.{ap}
 use native.Mathlib.Omega.{arith}
 use Rattle.bins.specs.declared.state.Interval.{Interval}
 use Rattle.bins.specs.declared.state.Refusal.{Refusal}
-use Rattle.bins.specs.declared.state.Step.{Step}
-use Rattle.bins.specs.declared.state.Step.TheVariants as step
 use Rattle.bins.specs.Syn.{done, bin, ◌>>=◌, Out}
-use Rattle.bins.specs.Sources.{cursor, by_code, stopped, refusal_of}
+use Rattle.bins.specs.Sources.{cursor, by_code, stopped, Step, got}
 use Rattle.bins.specs.Laws.{RefusedBy, bind_ok, bind_no}
 use Rattle.hevc_residual.specs.Wanted.{Wanted, is_sig, none}
 use Rattle.hevc_residual.specs.SubBlock.{places_s}
@@ -74,14 +72,14 @@ module _ (s : Bool) (l : List ℕ) (ctx : ℕ → ℕ) (infer : Bool) (below : �
             ∙ ap (λ z. from s l (by_infer z (bin (ctx (k - 1)) (λ v. is_sig lv v (k - 1)) done >>= on_from lv ctx infer (k - 1) (unpacked t))) y ds) off
             ∙ ap (λ z. from s l (bin z (λ v. is_sig lv v (k - 1)) done >>= on_from lv ctx infer (k - 1) (unpacked t)) y ds) (sym nq)
 
-        pub placing_refused : (v : Refusal) → r ≡ stopped v → (u : Refusal) → u ≡ refusal_of r → (lv : ℕ → Wanted → ℤ)
-            → RefusedBy u (from s l (places_s lv ctx infer below (unpacked met)) x cs)
-        placing_refused v q u p lv =
+        pub placing_refused : (v : Refusal) → r ≡ stopped v → (lv : ℕ → Wanted → ℤ)
+            → RefusedBy v (from s l (places_s lv ctx infer below (unpacked met)) x cs)
+        placing_refused v q lv =
             let w : Wanted → Bool = λ o. is_sig lv o (k - 1) in
             let f = bind_no (by_code s l) (bin number w done) (on_from lv ctx infer (k - 1) (unpacked t)) (cursor y ds) v (flag_no_lem r v es _ (e w) q) in
-            subst (λ z. RefusedBy z (from s l (places_s lv ctx infer below (unpacked met)) x cs)) (sym (p ∙ ap refusal_of q)) (f.0, next_left lv ∙ f.1)
+            (f.0, next_left lv ∙ f.1)
 
-        module _ (v : ℕ) (z : Interval) (q : r ≡ step.Bin v z) where
+        module _ (v : ℕ) (z : Interval) (q : r ≡ got v z) where
           pub placing_bit : v ≤ 1
           placing_bit = let f = flag_ok r v z es _ (e (λ o. false)) q in bit_most v f.0 f.1
 

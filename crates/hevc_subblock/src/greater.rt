@@ -8,22 +8,17 @@ ghost use Rattle.hevc_elements.specs.Agree.{Reads, from};
 ghost use Rattle.hevc_rules.specs.GreaterAgree.{none};
 ghost use Rattle.hevc_subblock.specs.GreaterAgree.{SaysGreater};
 
-use bins::state::{Interval, Refusal, Step, refusal_of};
+use bins::state::{Interval, Refusal, Taken};
 use bins::tags::CONTEXTS;
 use hevc_elements::shapes::context_bin;
 use hevc_level_rules::greater::carry_next;
 
-// The bins as a mask, the first in the lowest bit, and greater1Ctx behind them.
+// The bins as a mask, the first in the lowest bit, greater1Ctx behind them, and the state.
 #[derive(Clone, Copy)]
 pub struct Greater {
     pub mask: u32,
     pub carry: u32,
-}
-
-#[derive(Clone, Copy)]
-pub enum Greaters {
-    Got(Greater, Interval),
-    Refused(Refusal),
+    pub next: Interval,
 }
 
 // n bins, with contexts base + greater1Ctx.
@@ -35,23 +30,23 @@ pub fn greater1(
     n: u32,
     bytes: &[u8],
     x: Interval,
-) -> Greaters
+) -> Result<Greater, Refusal>
     requires { Reads list bytes.now x contexts.old × (table.now ≡ decisions) × (base + 3 < context_count) × (n ≤ 8) }
     ensures { (lv : ℕ → Wanted → ℤ) (ks : List ℕ) → min 8 (length ks) ≡ n → SaysGreater n result contexts.new (from list bytes.now (greater1_s lv base 8 ks none) x contexts.old) }
 {
     let mut mask: u32 = 0;
     let mut carry: u32 = 1;
     let mut y = x;
-    let mut j: u32 = 0;
-    while j < n {
-        let t = context_bin(list, table, contexts, base + carry as usize, bytes, y);
-        let Step::Bin(b, next) = t else {
-            return Greaters::Refused(refusal_of(t));
-        };
+    for j in 0..n {
+        let number = base + carry as usize;
+        let Taken { value: b, next } = context_bin(list, table, contexts, number, bytes, y)?;
         mask = mask + (b << j);
         carry = carry_next(b, carry);
         y = next;
-        j += 1;
     }
-    Greaters::Got(Greater { mask, carry }, y)
+    Ok(Greater {
+        mask,
+        carry,
+        next: y,
+    })
 }

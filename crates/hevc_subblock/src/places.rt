@@ -9,15 +9,16 @@ ghost use Rattle.hevc_places.specs.Packing.{Packs, unpacked};
 ghost use Rattle.hevc_places.specs.PlacesAgree.{number_at};
 ghost use Rattle.hevc_subblock.specs.PlacesAgree.{SaysPlaces};
 
-use bins::state::{Interval, Refusal, Step, refusal_of};
+use bins::state::{Interval, Refusal, Taken};
 use bins::tags::CONTEXTS;
 use hevc_elements::shapes::context_bin;
 use hevc_places::places::{Places, SigNumbers, appended, inferred, number_at};
 
+// The places met, and the state behind them.
 #[derive(Clone, Copy)]
-pub enum Placed {
-    Got(Places, Interval),
-    Refused(Refusal),
+pub struct Placed {
+    pub places: Places,
+    pub next: Interval,
 }
 
 // The places below `below`, behind those met already. What is lent is apart, since each function over a struct that held it would be walked by hand;
@@ -32,31 +33,26 @@ pub fn significance(
     below: u32,
     met: Places,
     x: Interval,
-) -> Placed
+) -> Result<Placed, Refusal>
     requires { Reads list bytes.now x contexts.old × (table.now ≡ decisions) × Packs met × (met.count + below ≤ 16) × ((k : ℕ) → k < below → number_at numbers k < context_count) }
     ensures { (lv : ℕ → Wanted → ℤ) → SaysPlaces result contexts.new (from list bytes.now (places_s lv (number_at numbers) infer below (unpacked met)) x contexts.old) }
 {
-    let mut k = below;
     let mut s = met;
     let mut y = x;
-    while 0 < k {
-        k -= 1;
+    for k in (0..below).rev() {
         if inferred(k, infer, s.count) {
-            return Placed::Got(
-                Places {
+            return Ok(Placed {
+                places: Places {
                     packed: 0,
                     count: 1,
                 },
-                y,
-            );
+                next: y,
+            });
         }
         let number = number_at(numbers, k);
-        let t = context_bin(list, table, contexts, number, bytes, y);
-        let Step::Bin(b, next) = t else {
-            return Placed::Refused(refusal_of(t));
-        };
+        let Taken { value: b, next } = context_bin(list, table, contexts, number, bytes, y)?;
         s = appended(s, k, b);
         y = next;
     }
-    Placed::Got(s, y)
+    Ok(Placed { places: s, next: y })
 }

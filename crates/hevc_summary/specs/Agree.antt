@@ -1,5 +1,5 @@
 -- What the code's answers mean.
-use Rattle.std.specs.Prelude.{ℕ, ◌≡◌, List, [], ℤ}
+use Rattle.std.specs.Prelude.{ℕ, ◌≡◌, List, [], ℤ, Result}
 use Rattle.hevc_summary.specs.declared.kept.Form.{Form}
 use Rattle.hevc_summary.specs.declared.kept.Whole.{Whole}
 use Rattle.hevc_summary.specs.declared.kept.Changed.{Changed}
@@ -9,8 +9,8 @@ use Rattle.hevc_summary.specs.declared.reading.ListInto.{ListInto}
 use Rattle.hevc_summary.specs.Entries.{After, set_level, KeptRead, KeptList}
 use Rattle.cabac.specs.Numbers.{Answer}
 use Rattle.hevc_residual.specs.Entries.{Found, FoundAt}
-use Rattle.hevc_residual.specs.declared.answers.Read.{Read}
-use Rattle.hevc_residual.specs.declared.answers.ReadList.{ReadList}
+use Rattle.hevc_residual.specs.declared.answers.ReadBlock.{ReadBlock}
+use Rattle.hevc_residual.specs.declared.answers.Found as code
 use Rattle.hevc_residual.specs.Answers.{payload_read, bins_read}
 
 -- a lent block with its records
@@ -26,10 +26,10 @@ abbrev pub SetSays : Form → ℕ → ℤ → Kept → After → Type 0
 SetSays f place v k x = (x ≡ set_level f place v k) × (True f.log2 k → True f.log2 x.kept) × Frame f.log2 place k x.kept
 
 -- what the readers answer
-abbrev pub read_says : Read → Answer FoundAt
+abbrev pub read_says : Result ReadBlock ℕ → Answer FoundAt
 read_says r = (payload_read r [] [] []).answer
 
-abbrev pub list_says : ReadList → Answer Found
+abbrev pub list_says : Result code.Found ℕ → Answer Found
 list_says r = (bins_read r [] []).answer
 
 abbrev pub kept_read : ReadInto → List ℕ → List ℕ → List ℤ → List ℕ → List ℕ → KeptRead

@@ -2,13 +2,16 @@
 use Prim.Native.Nat.{ℕ, zero, suc, ◌+◌, ◌-◌, ◌*◌, ◌/◌, ◌%◌, ◌^◌, ◌≤◌, ◌<◌, min}
 use Rattle.std.specs.Prelude.{◌≡◌, Bool, ◌&&◌, cond, leb, ltb, eqb, ℤ, pos}
 use Rattle.std.proofs.Math.Path.{refl, sym, ap, ap₂}
-use Rattle.std.proofs.Common.{subst, ◌∙◌, div-le_self, mul-zero, pow_mono, length-set}
+use Rattle.std.proofs.Common.{subst, ◌∙◌, add-one, append_assoc, drop-cons, length-take-le, take-suc, div-le_self, mul-zero, pow_mono, length-set}
 use Rattle.std.proofs.Math.Bool.{true, false}
-use mathlib.Core.List.{List, [], ◌∷◌}
+use mathlib.Core.List.{List, [], ◌∷◌, ◌++◌}
+use Rattle.std.proofs.lemmas.List.{length-replicate}
+use Rattle.std.proofs.lemmas.Grind.{replicate_next}
+use Rattle.std.proofs.Math.Seq.{set-append_seam}
 use native.Mathlib.Omega.{arith}
 use Rattle.std.proofs.Math.Nat.{mod-le}
 use Rattle.std.proofs.Math.IntN.{nat_abs}
-use Rattle.std.proofs.Math.ListN.{length, get_or, set}
+use Rattle.std.proofs.Math.ListN.{length, get_or, set, take, drop, replicate}
 use borrow.Author.Tests.{lt-leb, le-leb, le-ltb, lt-ltb, eq-eqb, ne_eqb, eqb-true, eqb-false}
 use Rattle.counting.specs.Count.{nonzero, sum_to, updated}
 use Rattle.counting.specs.SumLaws.{sum_step, sum_zero}
@@ -39,6 +42,12 @@ module _ (f : ℕ → ℕ) (n : ℕ) where
 
   pub at_five : (2 ≤ n) × (n ≤ 5) → (n ≡ 2 → ⊥) → (n ≡ 3 → ⊥) → (n ≡ 4 → ⊥) → f 5 ≡ f n
   at_five h a b c = let q : 5 ≡ n = omega arith in ap f q
+
+pub side_shl : (log2 : ℕ) → 2 ≤ log2 → log2 ≤ 5 → (1 * 2 ^ log2) % 18446744073709551616 ≡ side log2
+side_shl = by_size (λ log2. (1 * 2 ^ log2) % 18446744073709551616 ≡ side log2) refl refl refl refl
+
+pub subs_grid : (log2 : ℕ) → 2 ≤ log2 → log2 ≤ 5 → 4 ^ (log2 - 2) ≡ subs log2
+subs_grid = by_size (λ log2. 4 ^ (log2 - 2) ≡ subs log2) refl refl refl refl
 
 pub area_most : (log2 : ℕ) → 2 ≤ log2 → log2 ≤ 5 → area log2 ≤ 1024
 area_most = by_size (λ log2. area log2 ≤ 1024) (omega arith) (omega arith) (omega arith) (omega arith)
@@ -245,6 +254,23 @@ zero_ends before n levels i z h =
     let e : i ≡ n = omega (arith, z.few) in
     z.is ∙ ap (λ (m : ℕ). updated (pos 0) m (λ _ _. pos 0) before) e
 
+-- a first part of n places, and the nth place over what stands behind it
+front_more : (front l : List ℤ) (n : ℕ) (v : ℤ) → length front ≡ n → n < length l → set (front ++ drop n l) n v ≡ (front ++ (v ∷ [])) ++ drop (suc n) l
+front_more front l n v q h =
+    let y = get_or l n (pos 0) in
+    let r = drop (suc n) l in
+    let d : drop n l ≡ y ∷ r = drop-cons l n (pos 0) h in
+    let s : set (front ++ (y ∷ r)) n v ≡ front ++ (v ∷ r) = subst (λ k. set (front ++ (y ∷ r)) k v ≡ front ++ (v ∷ r)) q (set-append_seam front y r v) in
+    ap (λ (t : List ℤ). set (front ++ t) n v) d ∙ s ∙ sym (append_assoc front (v ∷ []) r)
+
+pub zeros_front : (n : ℕ) (levels : List ℤ) → n ≤ length levels → replicate n (pos 0) ++ drop n levels ≡ zeros n levels
+unfolding zeros updated
+zeros_front zero levels h = refl
+zeros_front (suc n) levels h =
+    ap (λ (t : List ℤ). t ++ drop (suc n) levels) (ap (λ k. replicate k (pos 0)) (sym (add-one n)) ∙ replicate_next n (pos 0))
+    ∙ sym (front_more (replicate n (pos 0)) levels n (pos 0) (length-replicate n (pos 0)) (omega arith))
+    ∙ ap (λ (t : List ℤ). set t n (pos 0)) (zeros_front n levels (omega arith))
+
 -- ---- every record anew
 pub record Filling (log2 : ℕ) (levels : List ℤ) (before before' : List ℕ) (n : ℕ) (counts sums : List ℕ) (s : ℕ) : Type 0 where
   pub all : n ≡ subs log2
@@ -442,6 +468,15 @@ unfolding copied
 copy_ends before from n levels i z h =
     let e : i ≡ n = omega (arith, z.few) in
     z.is ∙ ap (λ (m : ℕ). updated (pos 0) m (λ place _. level_at from place) before) e
+
+pub copied_front : (n : ℕ) (from levels : List ℤ) → n ≤ length from → n ≤ length levels → take n from ++ drop n levels ≡ copied n from levels
+unfolding copied updated
+copied_front zero from levels g h = refl
+copied_front (suc n) from levels g h =
+    let v = get_or from n (pos 0) in
+    ap (λ (t : List ℤ). t ++ drop (suc n) levels) (take-suc from n (pos 0) (omega arith))
+    ∙ sym (front_more (take n from) levels n v (length-take-le n from (omega arith)) (omega arith))
+    ∙ ap (λ (t : List ℤ). set t n v) (copied_front n from levels (omega arith) (omega arith))
 
 pub copied_length : (n : ℕ) (from levels levels' : List ℤ) → levels' ≡ copied n from levels → length levels' ≡ length levels
 unfolding copied

@@ -1,6 +1,6 @@
 -- The ways out of the code that reads into a kept block. Assumes nothing.
 use Prim.Native.Nat.{ℕ, zero, suc}
-use Rattle.std.specs.Prelude.{◌≡◌, refl, Bool, true, false, ◌&&◌, ltb, eqb, ℤ}
+use Rattle.std.specs.Prelude.{◌≡◌, refl, Bool, true, false, ◌&&◌, ltb, eqb, ℤ, Result, Ok, Err}
 use Rattle.std.proofs.Math.Path.{sym, ap, ap₂}
 use Rattle.std.proofs.Common.{subst, ◌∙◌, arith}
 use Rattle.std.proofs.Math.Bool.{cond}
@@ -14,10 +14,7 @@ use Rattle.hevc_residual.specs.Numbers.{parameter_refusal}
 use Rattle.hevc_residual.specs.Remainder.{log2_transform_range}
 use Rattle.hevc_residual.specs.Entries.{FoundAt, Found, PayloadRead, BinsRead, read_payload, read_bins}
 use Rattle.hevc_residual.specs.declared.answers.Found.{Found as Found'}
-use Rattle.hevc_residual.specs.declared.answers.Read.{Read}
-use Rattle.hevc_residual.specs.declared.answers.Read.TheVariants as read
-use Rattle.hevc_residual.specs.declared.answers.ReadList.{ReadList}
-use Rattle.hevc_residual.specs.declared.answers.ReadList.TheVariants as readlist
+use Rattle.hevc_residual.specs.declared.answers.ReadBlock.{ReadBlock}
 use Rattle.hevc_residual.specs.Answers.{payload_read, bins_read}
 use Rattle.hevc_summary.specs.declared.kept.Form.{Form}
 use Rattle.hevc_summary.specs.declared.kept.Whole.{Whole}
@@ -80,38 +77,38 @@ module _ (log2 : ℕ) (levels : List ℤ) (counts sums : List ℕ) (w : Whole) (
       ∙ ap (λ (b : Bool). cond b (counted log2 levels' (kept_of levels counts sums w)) (kept_of levels counts sums w)) (sym t)
 
 -- ---- from a payload
-read_answer : (r : Read) (cs stats : List ℕ) (levels : List ℤ) → (payload_read r cs stats levels).answer ≡ read_says r
-read_answer (read.Block g e) cs stats levels = refl
-read_answer (read.Refused n) cs stats levels = refl
+read_answer : (r : Result ReadBlock ℕ) (cs stats : List ℕ) (levels : List ℤ) → (payload_read r cs stats levels).answer ≡ read_says r
+read_answer (Ok b) cs stats levels = refl
+read_answer (Err n) cs stats levels = refl
 
-read_parts : (r : Read) (cs stats : List ℕ) (levels : List ℤ)
+read_parts : (r : Result ReadBlock ℕ) (cs stats : List ℕ) (levels : List ℤ)
     → record { answer = read_says r; contexts = cs; stats = stats; block = levels } ≡ payload_read r cs stats levels
-read_parts (read.Block g e) cs stats levels = refl
-read_parts (read.Refused n) cs stats levels = refl
+read_parts (Ok b) cs stats levels = refl
+read_parts (Err n) cs stats levels = refl
 
-pub read_came_got : (r : Read) (g : Found') (e : Engine) → r ≡ read.Block g e → true ≡ touched (read_says r)
+pub read_came_got : (r : Result ReadBlock ℕ) (b : ReadBlock) → r ≡ Ok b → true ≡ touched (read_says r)
 unfolding touched
-read_came_got r g e q = ap (λ (x : Read). touched (read_says x)) (sym q)
+read_came_got r b q = ap (λ (x : Result ReadBlock ℕ). touched (read_says x)) (sym q)
 
-pub read_came_is : (r : Read) (n : ℕ) → r ≡ read.Refused n → ltb 6 n ≡ touched (read_says r)
+pub read_came_is : (r : Result ReadBlock ℕ) (n : ℕ) → r ≡ Err n → ltb 6 n ≡ touched (read_says r)
 unfolding touched
-read_came_is r n q = ap (λ (x : Read). touched (read_says x)) (sym q)
+read_came_is r n q = ap (λ (x : Result ReadBlock ℕ). touched (read_says x)) (sym q)
 
 module _ (f : Form) (l : List ℕ) (e : Engine) (contexts stats : List ℕ) (p : Params) (levels : List ℤ) (counts sums : List ℕ) (w : Whole) where
   abbrev before : Kept
   before = kept_of levels counts sums w
 
   pub read_refused : (n : ℕ) → n ≡ read_refusal f l p levels → (n ≡ 0 → ⊥)
-      → kept_read (record { read = read.Refused n; whole = w }) contexts stats levels counts sums ≡ read_kept f l e contexts stats p (kept_of levels counts sums w)
+      → kept_read (record { read = Err n; whole = w }) contexts stats levels counts sums ≡ read_kept f l e contexts stats p (kept_of levels counts sums w)
   unfolding read_kept
   read_refused n q h = go (read_refusal f l p levels) q
     where
       go : (m : ℕ) → n ≡ m
-          → kept_read (record { read = read.Refused n; whole = w }) contexts stats levels counts sums ≡ read_kept_by m f l e contexts stats p before
+          → kept_read (record { read = Err n; whole = w }) contexts stats levels counts sums ≡ read_kept_by m f l e contexts stats p before
       go zero u = absurd (h u)
-      go (suc m) u = unfold read_kept_by in ap (λ (x : ℕ). kept_read (record { read = read.Refused x; whole = w }) contexts stats levels counts sums) u
+      go (suc m) u = unfold read_kept_by in ap (λ (x : ℕ). kept_read (record { read = Err x; whole = w }) contexts stats levels counts sums) u
 
-  module _ (z : 0 ≡ read_refusal f l p levels) (r : Read) (cs stats' : List ℕ) (levels' : List ℤ)
+  module _ (z : 0 ≡ read_refusal f l p levels) (r : Result ReadBlock ℕ) (cs stats' : List ℕ) (levels' : List ℤ)
       (q : payload_read r cs stats' levels' ≡ read_payload l e contexts stats p levels) where
     abbrev seen : PayloadRead → KeptRead
     seen x = record { answer = x.answer; contexts = x.contexts; stats = x.stats; kept = kept_by (touched x.answer) f.log2 x.block before }
@@ -141,36 +138,36 @@ module _ (f : Form) (l : List ℕ) (e : Engine) (contexts stats : List ℕ) (p :
         (kept_not f.log2 levels counts sums w (touched (read_says r)) levels' t (read_unmoved t)) ∙ to_read
 
 -- ---- from a bin list
-list_answer : (r : ReadList) (stats : List ℕ) (levels : List ℤ) → (bins_read r stats levels).answer ≡ list_says r
-list_answer (readlist.Block g) stats levels = refl
-list_answer (readlist.Refused n) stats levels = refl
+list_answer : (r : Result Found' ℕ) (stats : List ℕ) (levels : List ℤ) → (bins_read r stats levels).answer ≡ list_says r
+list_answer (Ok g) stats levels = refl
+list_answer (Err n) stats levels = refl
 
-list_parts : (r : ReadList) (stats : List ℕ) (levels : List ℤ) → record { answer = list_says r; stats = stats; block = levels } ≡ bins_read r stats levels
-list_parts (readlist.Block g) stats levels = refl
-list_parts (readlist.Refused n) stats levels = refl
+list_parts : (r : Result Found' ℕ) (stats : List ℕ) (levels : List ℤ) → record { answer = list_says r; stats = stats; block = levels } ≡ bins_read r stats levels
+list_parts (Ok g) stats levels = refl
+list_parts (Err n) stats levels = refl
 
-pub list_came_got : (r : ReadList) (g : Found') → r ≡ readlist.Block g → true ≡ touched (list_says r)
+pub list_came_got : (r : Result Found' ℕ) (g : Found') → r ≡ Ok g → true ≡ touched (list_says r)
 unfolding touched
-list_came_got r g q = ap (λ (x : ReadList). touched (list_says x)) (sym q)
+list_came_got r g q = ap (λ (x : Result Found' ℕ). touched (list_says x)) (sym q)
 
-pub list_came_is : (r : ReadList) (n : ℕ) → r ≡ readlist.Refused n → ltb 6 n ≡ touched (list_says r)
+pub list_came_is : (r : Result Found' ℕ) (n : ℕ) → r ≡ Err n → ltb 6 n ≡ touched (list_says r)
 unfolding touched
-list_came_is r n q = ap (λ (x : ReadList). touched (list_says x)) (sym q)
+list_came_is r n q = ap (λ (x : Result Found' ℕ). touched (list_says x)) (sym q)
 
 module _ (f : Form) (l stats : List ℕ) (p : Params) (levels : List ℤ) (counts sums : List ℕ) (w : Whole) where
   abbrev before' : Kept
   before' = kept_of levels counts sums w
 
   pub list_refused : (n : ℕ) → n ≡ block_refusal f p levels → (n ≡ 0 → ⊥)
-      → kept_list (record { read = readlist.Refused n; whole = w }) stats levels counts sums ≡ list_kept f l stats p (kept_of levels counts sums w)
+      → kept_list (record { read = Err n; whole = w }) stats levels counts sums ≡ list_kept f l stats p (kept_of levels counts sums w)
   unfolding list_kept
   list_refused n q h = go (block_refusal f p levels) q
     where
-      go : (m : ℕ) → n ≡ m → kept_list (record { read = readlist.Refused n; whole = w }) stats levels counts sums ≡ list_kept_by m f l stats p before'
+      go : (m : ℕ) → n ≡ m → kept_list (record { read = Err n; whole = w }) stats levels counts sums ≡ list_kept_by m f l stats p before'
       go zero u = absurd (h u)
-      go (suc m) u = unfold list_kept_by in ap (λ (x : ℕ). kept_list (record { read = readlist.Refused x; whole = w }) stats levels counts sums) u
+      go (suc m) u = unfold list_kept_by in ap (λ (x : ℕ). kept_list (record { read = Err x; whole = w }) stats levels counts sums) u
 
-  module _ (z : 0 ≡ block_refusal f p levels) (r : ReadList) (stats' : List ℕ) (levels' : List ℤ) (q : bins_read r stats' levels' ≡ read_bins l stats p levels) where
+  module _ (z : 0 ≡ block_refusal f p levels) (r : Result Found' ℕ) (stats' : List ℕ) (levels' : List ℤ) (q : bins_read r stats' levels' ≡ read_bins l stats p levels) where
     abbrev seen' : BinsRead → KeptList
     seen' x = record { answer = x.answer; stats = x.stats; kept = kept_by (touched x.answer) f.log2 x.block before' }
 

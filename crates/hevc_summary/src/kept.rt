@@ -25,6 +25,7 @@ pub struct Tally {
 }
 
 // What a change answers: 0 with the new record of the whole, or the number of the refusal with the record handed in.
+// No Result: the C interface hands this record out as it stands.
 #[repr(C)]
 #[derive(Clone, Copy)]
 pub struct Changed {

@@ -1,6 +1,6 @@
 -- The loop over a tray's records, and the ways out of the entry point. Assumes nothing.
 use Prim.Native.Nat.{ℕ, zero, suc, ◌+◌, ◌-◌, ◌≤◌, ◌<◌}
-use Rattle.std.specs.Prelude.{◌≡◌, Bool, true, false, cond, ℤ, pos, get_or, set, ltb}
+use Rattle.std.specs.Prelude.{◌≡◌, Bool, true, false, cond, ℤ, pos, get_or, set, ltb, Result, Err, Ok}
 use Rattle.std.proofs.Math.Path.{refl, sym, ap}
 use Rattle.std.proofs.Common.{subst, ◌∙◌, arith, add-one, length-take, length-drop, take-append-drop, ltb-false, drop-cons, drop-drop, length-take-le, take_at, drop_at}
 use mathlib.Core.List.{List, [], ◌∷◌, ◌++◌, append_assoc}
@@ -17,8 +17,7 @@ use Rattle.hevc_residual.specs.Numbers.{parameter_refusal, contexts_refusal, sta
 use Rattle.hevc_residual.specs.Entries as entries
 use Rattle.hevc_residual.specs.Entries.{FoundAt, PayloadRead, read_payload}
 use Rattle.hevc_residual.specs.declared.answers.Found.{Found}
-use Rattle.hevc_residual.specs.declared.answers.Read.{Read}
-use Rattle.hevc_residual.specs.declared.answers.Read.TheVariants as read
+use Rattle.hevc_residual.specs.declared.answers.ReadBlock.{ReadBlock}
 use Rattle.hevc_residual.specs.Answers.{found_seen, payload_read, payload_checks}
 use Rattle.hevc_tray.specs.Rows.{params_of, records_of, rows_refusal, found_row, found_rows}
 use Rattle.hevc_tray.specs.Tray.{Tray, behind, on_block, tray, records_refusal, count_refusal, rooms_refusal, tray_checks, TrayRead, laid, untouched, read_tray_by, read_tray, read_rows}
@@ -235,16 +234,16 @@ module _ (l : List ℕ) (e₀ : Engine) (cs₀ st₀ : List ℕ) (rows : List (L
             (subst (λ (k : ℕ). 0 ≡ payload_checks l e cs st p (take k (drop at levels))) (sym en) (able_checks l e cs st p part w.able part_fine))
 
         -- r is what its reading answered
-        module _ (r : Read) (cs' st' : List ℕ) (part' : List ℤ) (s : payload_read r cs' st' part' ≡ read_payload l e cs st q (take n (drop at levels))) where
+        module _ (r : Result ReadBlock ℕ) (cs' st' : List ℕ) (part' : List ℤ) (s : payload_read r cs' st' part' ≡ read_payload l e cs st q (take n (drop at levels))) where
           abbrev levels' : List ℤ
           levels' = take at levels ++ (part' ++ drop n (drop at levels))
 
-          read_as : (r' : Read) → r ≡ r' → payload_read r' cs' st' part' ≡ read_payload l e cs st p part
+          read_as : (r' : Result ReadBlock ℕ) → r ≡ r' → payload_read r' cs' st' part' ≡ read_payload l e cs st p part
           read_as r' u =
-              ap (λ (z : Read). payload_read z cs' st' part') (sym u) ∙ s ∙ ap (λ (z : Params). read_payload l e cs st z (take n (drop at levels))) eq
+              ap (λ (z : Result ReadBlock ℕ). payload_read z cs' st' part') (sym u) ∙ s ∙ ap (λ (z : Params). read_payload l e cs st z (take n (drop at levels))) eq
               ∙ ap (λ (k : ℕ). read_payload l e cs st p (take k (drop at levels))) en
 
-          tray_is : (r' : Read) → r ≡ r' → let x = payload_read r' cs' st' part' in
+          tray_is : (r' : Result ReadBlock ℕ) → r ≡ r' → let x = payload_read r' cs' st' part' in
               tray l e cs st (records_of (drop i rows)) (drop at levels)
               ≡ on_block e x (drop (area p) (drop at levels)) (λ f. tray l f x.contexts x.stats (records_of rest) (drop (area p) (drop at levels))) x.answer
           unfolding tray
@@ -252,20 +251,20 @@ module _ (l : List ℕ) (e₀ : Engine) (cs₀ st₀ : List ℕ) (rows : List (L
               ap (λ (ps : List Params). tray l e cs st ps (drop at levels)) next
               ∙ ap (λ (x : PayloadRead). on_block e x (drop (area p) (drop at levels)) (λ f. tray l f x.contexts x.stats (records_of rest) (drop (area p) (drop at levels))) x.answer) (sym (read_as r' u))
 
-          pub walk_refused : (m : ℕ) → r ≡ read.Refused m → 0 ≡ tray_checks l e₀ cs₀ st₀ (rows_refusal rows) (records_of rows) levels₀ (length found₀)
+          pub walk_refused : (m : ℕ) → r ≡ Err m → 0 ≡ tray_checks l e₀ cs₀ st₀ (rows_refusal rows) (records_of rows) levels₀ (length found₀)
               → record { done = i; number = m; engine = e; contexts = cs'; stats = st'; levels = levels'; found = found } ≡ read_rows l e₀ cs₀ st₀ rows levels₀ found₀
           unfolding on_block
           walk_refused m u c =
               let left = part' ++ drop (area p) (drop at levels) in
               let g : all ≡ ahead_by i w.seen (take at levels) (stopped m e cs' st' left) =
-              w.goes ∙ ap (λ (t : Tray). ahead_by i w.seen (take at levels) t) (tray_is (read.Refused m) u) in
+              w.goes ∙ ap (λ (t : Tray). ahead_by i w.seen (take at levels) t) (tray_is (Err m) u) in
               let f = finish i w.seen (take at levels) left m e cs' st' found found₀ w.each w.laid in
               ap (λ (k : ℕ). record { done = i; number = m; engine = e; contexts = cs'; stats = st'; levels = take at levels ++ (part' ++ drop k (drop at levels)); found = found }) en
               ∙ f ∙ ap (λ (t : Tray). laid t found₀) (sym g) ∙ rows_read l e₀ cs₀ st₀ rows levels₀ found₀ c
 
-          module _ (f : Found) (d : Engine) (u : r ≡ read.Block f d) where
-            on : On l p cs st part (payload_read (read.Block f d) cs' st' part') (accepted (record { found = found_seen f; next = d }))
-            on = subst (λ (x : PayloadRead). On l p cs st part x x.answer) (sym (read_as (read.Block f d) u)) (reads_on l e cs st p part w.able part_fine)
+          module _ (f : Found) (d : Engine) (u : r ≡ Ok (record { found = f; state = d })) where
+            on : On l p cs st part (payload_read (Ok (record { found = f; state = d })) cs' st' part') (accepted (record { found = found_seen f; next = d }))
+            on = subst (λ (x : PayloadRead). On l p cs st part x x.answer) (sym (read_as (Ok (record { found = f; state = d })) u)) (reads_on l e cs st p part w.able part_fine)
 
             front_long : length (take at levels ++ part') ≡ at + n
             front_long = length-append (take at levels) part' ∙ omega (arith, length-take-le at levels w.fits, on.1, part_long, en)
@@ -301,14 +300,14 @@ module _ (l : List ℕ) (e₀ : Engine) (cs₀ st₀ : List ℕ) (rows : List (L
                   laid = found_set w.seen (found_seen f) i found₀ found w.each (omega (arith, w.rooms)) w.laid;
                   goes =
                       w.goes
-                      ∙ ap (λ (t : Tray). ahead_by i w.seen (take at levels) t) (tray_is (read.Block f d) u)
+                      ∙ ap (λ (t : Tray). ahead_by i w.seen (take at levels) t) (tray_is (Ok (record { found = f; state = d })) u)
                       ∙ ahead_more i w.seen (take at levels) part' (found_seen f) (tray l d cs' st' (records_of rest) (drop (area p) (drop at levels)))
                       ∙ ap (λ (v : List ℤ). ahead_by (i + 1) (w.seen ++ (found_seen f ∷ [])) v (tray l d cs' st' (records_of rest) (drop (area p) (drop at levels)))) (sym front_is)
                       ∙ ap (λ (v : List ℤ). ahead_by (i + 1) (w.seen ++ (found_seen f ∷ [])) (take (at + n) levels') (tray l d cs' st' (records_of rest) v)) (sym rest_is);
                 }
 
-pub read_number : (r : Read) (m n : ℕ) → r ≡ read.Refused m → n ≡ read_no r → r ≡ read.Refused n
-read_number r m n q e = q ∙ ap read.Refused (sym (e ∙ ap read_no q))
+pub read_number : (r : Result ReadBlock ℕ) (m n : ℕ) → r ≡ Err m → n ≡ read_no r → r ≡ Err n
+read_number r m n q e = q ∙ ap Err (sym (e ∙ ap read_no q))
 
 -- ---- the entry point in request (iv)'s words, of what the checks let through
 pub promised : (l : List ℕ) (e : Engine) (contexts stats : List ℕ) (rows : List (List ℕ)) (levels : List ℤ) (found : List (List ℕ))

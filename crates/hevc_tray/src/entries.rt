@@ -3,6 +3,7 @@
 use bins::state::Engine;
 
 // How many blocks were done, the number of the refusal that stopped it or 0, and the state as the last block done left it.
+// A Result would be no plainer: count and state are told of both.
 #[derive(Clone, Copy)]
 pub struct Tray {
     pub done: usize,

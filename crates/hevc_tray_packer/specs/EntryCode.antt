@@ -1,6 +1,6 @@
 -- The entry point's code: its checks, and each way out as the definition says. Assumes nothing.
 use Prim.Native.Nat.{ℕ, zero, suc, ◌+◌, ◌*◌, ◌≤◌, ◌<◌}
-use Rattle.std.specs.Prelude.{◌≡◌, refl, Bool, true, false, get_or, drop}
+use Rattle.std.specs.Prelude.{◌≡◌, refl, Bool, true, false, get_or, drop, Result, Err}
 use Rattle.std.proofs.Math.Path.{sym, ap}
 use Rattle.std.proofs.Common.{ap₂, subst, ◌∙◌, arith, add-one, drop_of_length-le, drop-cons, lt-ltb, le-ltb}
 use Rattle.std.proofs.Math.Bool.{cond}
@@ -21,8 +21,6 @@ use Rattle.hevc_tray.specs.Rows.{params_of, records_of, rows_refusal}
 use Rattle.packing.specs.Packs.{entries_most}
 use Rattle.packing.specs.Entries.{BinsPacked, not_packed, pack_into, pack_list, pack_tree}
 use Rattle.packing.proofs.EntriesLaws.{tree_checked, tree_read, list_whole}
-use Rattle.packer.specs.declared.list.Packing.{Packing}
-use Rattle.packer.specs.declared.list.Packing.TheVariants as packing
 use Rattle.packer.specs.IntoCode.{packing_says}
 use Rattle.hevc_packer.specs.Entries.{places}
 use Rattle.hevc_packer.specs.Tray.{blocks_s, count_refusal, records_refusal, tray_checks}
@@ -115,17 +113,17 @@ module _ (contexts stats : List ℕ) (rows : List (List ℕ)) where
 
 -- ---- the ways out
 module _ (contexts stats : List ℕ) (rows : List (List ℕ)) (list room : List ℕ) where
-  abbrev said : ℕ → Packing → List ℕ → TrayPacked
+  abbrev said : ℕ → Result ℕ ℕ → List ℕ → TrayPacked
   said done p room' = record { done = done; packed = packing_says p room' }
 
-  whole_is : (done : ℕ) (p : Packing) (room' : List ℕ) → done ≡ (pack_rows contexts stats rows list room).done → packing_says p room' ≡ (pack_rows contexts stats rows list room).packed
+  whole_is : (done : ℕ) (p : Result ℕ ℕ) (room' : List ℕ) → done ≡ (pack_rows contexts stats rows list room).done → packing_says p room' ≡ (pack_rows contexts stats rows list room).packed
       → said done p room' ≡ pack_rows contexts stats rows list room
   whole_is done p room' a b = λ i. record { done = a i; packed = b i }
 
-  pub refused_first : (n : ℕ) → n ≡ row_checks contexts stats rows → (n ≡ 0 → ⊥) → said 0 (packing.Refused n) room ≡ pack_rows contexts stats rows list room
+  pub refused_first : (n : ℕ) → n ≡ row_checks contexts stats rows → (n ≡ 0 → ⊥) → said 0 (Err n) room ≡ pack_rows contexts stats rows list room
   unfolding pack_rows done_by
   refused_first n q h =
-      whole_is 0 (packing.Refused n) room (none n q h)
+      whole_is 0 (Err n) room (none n q h)
       (sym (tree_is contexts stats rows list room ∙ tree_checked (blocks_s (records_of rows) stats) contexts list room n (row_checks contexts stats rows) q h))
     where
       none : (n : ℕ) → n ≡ row_checks contexts stats rows → (n ≡ 0 → ⊥) → 0 ≡ (pack_rows contexts stats rows list room).done
@@ -140,9 +138,9 @@ module _ (contexts stats : List ℕ) (rows : List (List ℕ)) (list room : List 
     unfolding pack_rows
     counted = ap (λ (l : Lists). l.done) e ∙ unfold done_by in ap (λ k. done_by k (records_of rows) stats list) pass
 
-    pub refused_lists : r.whole ≡ false → said r.done (packing.Refused 13) room ≡ pack_rows contexts stats rows list room
+    pub refused_lists : r.whole ≡ false → said r.done (Err 13) room ≡ pack_rows contexts stats rows list room
     refused_lists q =
-        whole_is r.done (packing.Refused 13) room counted
+        whole_is r.done (Err 13) room counted
         (sym (behind ∙ lists_refused (records_of rows) contexts stats list room (ap (λ (l : Lists). l.whole) (sym e) ∙ q)))
 
     module _ (q : r.whole ≡ true) where
@@ -155,6 +153,6 @@ module _ (contexts stats : List ℕ) (rows : List (List ℕ)) (list room : List 
           let z = tray_lists (records_of rows) stats list took.0 k.records k.small took.1 in
           (k.packs, omega (arith, z.0, k.few))
 
-      pub is_packed : (p : Packing) (room' : List ℕ) → packing_says p room' ≡ pack_into contexts list room → said r.done p room' ≡ pack_rows contexts stats rows list room
+      pub is_packed : (p : Result ℕ ℕ) (room' : List ℕ) → packing_says p room' ≡ pack_into contexts list room → said r.done p room' ≡ pack_rows contexts stats rows list room
       is_packed p room' w =
           whole_is r.done p room' counted (w ∙ sym (behind ∙ ap (pack_list contexts list room) took.1 ∙ list_whole (List Block) contexts list room took.0))

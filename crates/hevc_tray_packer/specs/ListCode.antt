@@ -1,7 +1,8 @@
 -- The lists as the code goes through them. Assumes nothing.
-use Rattle.std.specs.Prelude.{ℕ, zero, suc, ◌+◌, ◌≤◌, ◌<◌, ◌≡◌, Bool, true, false, ℤ, pos, length, get_or, drop, take, replicate}
+use Rattle.std.specs.Prelude.{ℕ, zero, suc, ◌+◌, ◌≤◌, ◌<◌, ◌≡◌, Bool, true, false, ℤ, pos, length, get_or, drop, take, replicate, eqb, Option, Some, None, Result, Ok, Err}
 use Rattle.std.proofs.Math.Path.{refl, sym, ap}
-use Rattle.std.proofs.Common.{ap₂, subst, ◌∙◌, arith, add-one, drop_of_length-le, drop-cons}
+use Rattle.std.proofs.Common.{ap₂, subst, ◌∙◌, arith, add-one, drop_of_length-le, drop-cons, eqb-true}
+use Rattle.std.proofs.lemmas.Bool.{eqb-false}
 use mathlib.Core.List.{List, [], ◌∷◌}
 use Rattle.std.proofs.lemmas.List.{length-replicate}
 use Rattle.bins.specs.declared.state.Interval.{Interval}
@@ -18,46 +19,42 @@ use Rattle.hevc_residual.specs.Limits.{Statistics}
 use Rattle.hevc_residual.specs.LimitLaws.{parameter_passed}
 use Rattle.hevc_residual.specs.Numbers.{parameter_refusal}
 use Rattle.hevc_elements.specs.Agree.{Reads, from, reads_on}
-use Rattle.hevc_residual.specs.declared.answers.Found.{Found}
 use Rattle.hevc_block.specs.declared.block.Blocked.{Blocked}
-use Rattle.hevc_block.specs.declared.block.Blocked.TheVariants as blocked
 use Rattle.hevc_block.specs.BlockAgree.{block_of, SaysBlock}
 use Rattle.hevc_tray.specs.Rows.{params_of, records_of}
 use Rattle.hevc_packer.specs.Entries.{places}
 use Rattle.hevc_packer.specs.Tray.{records_refusal}
 use Rattle.hevc_packer.specs.TrayLaws.{record_first}
-use Rattle.hevc_tray_packer.specs.declared.lists.Listed.{Listed}
-use Rattle.hevc_tray_packer.specs.declared.lists.Listed.TheVariants as listed
 use Rattle.hevc_tray_packer.specs.declared.lists.Lists as code
 use Rattle.hevc_tray_packer.specs.Rows.{Lists, is_end, on_list, lists}
 
--- what the answer for one list says: the block's tree, read from the place `at` on
-abbrev pub SaysList : Params → List ℕ → ℕ → List ℕ → Listed → List ℕ → Type 0
-SaysList p list at stats (listed.To end) stats' =
+-- what the answer for one list says: the block's tree, read from the place `at` on; none where it is refused
+abbrev pub SaysList : Params → List ℕ → ℕ → List ℕ → Option ℕ → List ℕ → Type 0
+SaysList p list at stats (Some end) stats' =
     (b : Block) × (run by_list (residual p stats) (drop at list) ≡ Out.ok b (drop end list)) × (b.stats ≡ stats') × Statistics stats' × (end ≤ length list)
-SaysList p list at stats listed.Refused stats' = (n : ℕ) × (rest : List ℕ) × (run by_list (residual p stats) (drop at list) ≡ Out.no n rest)
+SaysList p list at stats None stats' = (n : ℕ) × (rest : List ℕ) × (run by_list (residual p stats) (drop at list) ≡ Out.no n rest)
 
 abbrev pub lists_seen : code.Lists → Lists
 lists_seen r = record { done = r.done; whole = r.whole }
 
 -- ---- one list; r is what the block's reading answered
-module _ (p : Params) (l : List ℕ) (x : Interval) (cs stats : List ℕ) (r : Blocked) (cs' : List ℕ) (levels : List ℤ) (stats' : List ℕ)
+module _ (p : Params) (l : List ℕ) (x : Interval) (cs stats : List ℕ) (r : Result Blocked Refusal) (cs' : List ℕ) (levels : List ℤ) (stats' : List ℕ)
     (s : SaysBlock p true l x cs stats r cs' levels stats') where
-  abbrev Says : Blocked → Type 0
+  abbrev Says : Result Blocked Refusal → Type 0
   Says z = SaysBlock p true l x cs stats z cs' levels stats'
 
   listed_is : run by_list (residual p stats) (drop (place_of x) l) ≡ map_out (left l) (from true l (residual p stats) x cs)
   listed_is = run_listed l (residual p stats) x cs
 
-  pub list_got : Reads true l x cs → Statistics stats' → (f : Found) (y : Interval) → r ≡ blocked.Got f y → SaysList p l (place_of x) stats (listed.To (place_of y)) stats'
-  list_got g small f y q =
-      let w = subst (λ (z : Blocked). Says z) q s in
-      let k = (reads_on true l (residual p stats) x cs (block_of f levels stats') y cs' w g).0 in
-      (block_of f levels stats', listed_is ∙ ap (λ (o : Out Cursor Block). map_out (left l) o) w, refl, small, k)
+  pub list_got : Reads true l x cs → Statistics stats' → (b : Blocked) → r ≡ Ok b → SaysList p l (place_of x) stats (Some (place_of b.next)) stats'
+  list_got g small b q =
+      let w = subst (λ (z : Result Blocked Refusal). Says z) q s in
+      let k = (reads_on true l (residual p stats) x cs (block_of b.found levels stats') b.next cs' w g).0 in
+      (block_of b.found levels stats', listed_is ∙ ap (λ (o : Out Cursor Block). map_out (left l) o) w, refl, small, k)
 
-  pub list_no_lem : (n : Refusal) → r ≡ blocked.Refused n → (st : List ℕ) → SaysList p l (place_of x) stats listed.Refused st
+  pub list_no_lem : (n : Refusal) → r ≡ Err n → (st : List ℕ) → SaysList p l (place_of x) stats None st
   list_no_lem n q st =
-      let w = subst (λ (z : Blocked). Says z) q s in
+      let w = subst (λ (z : Result Blocked Refusal). Says z) q s in
       (n.number, left l (cursor n.at w.0), listed_is ∙ ap (λ (o : Out Cursor Block). map_out (left l) o) w.1)
 
 -- the block's own places: the first n of 1,024
@@ -126,7 +123,7 @@ module _ (rows : List (List ℕ)) (stats list : List ℕ) where
       unfolding lists
       next o q = g.goes ∙ ap (λ (ps : List Params). more i (lists ps st (drop at list))) here ∙ ap (λ (o : Out (List ℕ) Block). more i (on_list (lists (records_of (drop (suc i) rows))) o)) q
 
-      pub going_on : (end : ℕ) (st' : List ℕ) → SaysList p list at st (listed.To end) st' → Going rows stats list (i + 1) end st'
+      pub going_on : (end : ℕ) (st' : List ℕ) → SaysList p list at st (Some end) st' → Going rows stats list (i + 1) end st'
       going_on end st' s =
           let b = s.0 in
           let rest = records_of (drop (suc i) rows) in
@@ -142,7 +139,7 @@ module _ (rows : List (List ℕ)) (stats list : List ℕ) where
             goes = a ∙ c ∙ ap (λ (z : List ℕ). more (suc i) (lists rest z (drop end list))) s.2;
           })
 
-      pub going_no : (st' : List ℕ) → SaysList p list at st listed.Refused st' → told i false ≡ lists (records_of rows) stats list
+      pub going_no : (st' : List ℕ) → SaysList p list at st None st' → told i false ≡ lists (records_of rows) stats list
       going_no st' s =
           let z : i ≡ i + 0 = omega arith in
           ap (λ (n : ℕ). told n false) z ∙ sym (next (Out.no s.0 s.1) s.2 ∙ ap (more i) (on_no (lists (records_of (drop (suc i) rows))) s.0 s.1))
@@ -165,3 +162,10 @@ module _ (rows : List (List ℕ)) (stats list : List ℕ) where
           let k : at < length list = omega (arith, g.within) in
           let b : is_end (drop at list) ≡ false = ap is_end (drop-cons list at 0 k) ∙ unfold is_end in refl in
           sym (all ∙ ap (λ (b : Bool). told i b) b)
+
+      pub going_end : told i (eqb at (length list)) ≡ lists (records_of rows) stats list
+      going_end = go (eqb at (length list)) refl
+        where
+          go : (d : Bool) → eqb at (length list) ≡ d → told i d ≡ lists (records_of rows) stats list
+          go true q = going_whole (eqb-true at (length list) q)
+          go false q = going_left (eqb-false at (length list) q)

@@ -1,7 +1,7 @@
 -- What the entry point promises, of what its code answers and leaves: the definition's answer; and accepted with n, (iv)'s reader reads the first n bytes of the
 -- room back as the lists say, block for block; refused, the room is as it was. Assumes nothing.
 use Prim.Native.Nat.{ℕ, zero, suc, ◌≤◌}
-use Rattle.std.specs.Prelude.{◌≡◌, List, length, take}
+use Rattle.std.specs.Prelude.{◌≡◌, List, length, take, Result, Ok, Err}
 use Rattle.std.proofs.Math.Path.{refl, ap}
 use Rattle.std.proofs.Common.{sym, subst, ◌∙◌, arith}
 use Rattle.cabac.specs.Numbers.{accepted, refused, ◌or_else◌}
@@ -9,8 +9,6 @@ use Rattle.cabac.specs.NumberLaws.{or_else_zero}
 use Rattle.hevc_tray.specs.Rows.{records_of, rows_refusal}
 use Rattle.packing.specs.Entries.{BinsPacked, not_packed, pack_tree}
 use Rattle.packing.proofs.EntriesLaws.{accepts_is, refuses_is}
-use Rattle.packer.specs.declared.list.Packing.{Packing}
-use Rattle.packer.specs.declared.list.Packing.TheVariants as packing
 use Rattle.packer.specs.IntoCode.{packing_says}
 use Rattle.hevc_packer.specs.Tray.{blocks_s, count_refusal, records_refusal, tray_checks, pack_tray}
 use Rattle.hevc_packer.specs.TrayLaws.{count_few, tray_is_read, TrayAgain}
@@ -21,9 +19,9 @@ use Rattle.hevc_tray_packer.specs.TrayAgain.{TrayRows, again_rows, records_long}
 abbrev pub tray_says : TrayPacking → List ℕ → TrayPacked
 tray_says r room = record { done = r.done; packed = packing_says r.packing room }
 
-abbrev pub TrayBack : List ℕ → List ℕ → List (List ℕ) → List ℕ → List ℕ → Packing → List ℕ → Type 0
-TrayBack contexts stats rows list room (packing.Payload n) room' = TrayRows (take n room') contexts stats rows list
-TrayBack contexts stats rows list room (packing.Refused n) room' = room' ≡ room
+abbrev pub TrayBack : List ℕ → List ℕ → List (List ℕ) → List ℕ → List ℕ → Result ℕ ℕ → List ℕ → Type 0
+TrayBack contexts stats rows list room (Ok n) room' = TrayRows (take n room') contexts stats rows list
+TrayBack contexts stats rows list room (Err n) room' = room' ≡ room
 
 module _ (contexts stats : List ℕ) (rows : List (List ℕ)) (list room : List ℕ) where
   -- behind both checks it is the tray's tree packed
@@ -55,14 +53,14 @@ module _ (contexts stats : List ℕ) (rows : List (List ℕ)) (list room : List 
       let w = tray_is_read contexts stats (records_of rows) list room n (ap (λ (x : BinsPacked). x.answer) (sym t) ∙ q) in
       again_rows _ contexts stats rows list a.0 few (subst (λ (x : BinsPacked). TrayAgain (take n x.room) contexts stats (records_of rows) list) (sym t) w)
 
-  pub promised : (r : TrayPacking) (done : ℕ) (p : Packing) (room' : List ℕ) → r ≡ record { done = done; packing = p }
+  pub promised : (r : TrayPacking) (done : ℕ) (p : Result ℕ ℕ) (room' : List ℕ) → r ≡ record { done = done; packing = p }
       → tray_says (record { done = done; packing = p }) room' ≡ pack_rows contexts stats rows list room
       → (tray_says r room' ≡ pack_rows contexts stats rows list room) × TrayBack contexts stats rows list room r.packing room'
   promised r done p room' e q =
       subst (λ (z : TrayPacking). (tray_says z room' ≡ pack_rows contexts stats rows list room) × TrayBack contexts stats rows list room z.packing room') (sym e)
       (q, back p (ap (λ (z : TrayPacked). z.packed) q))
     where
-      back : (p : Packing) → packing_says p room' ≡ (pack_rows contexts stats rows list room).packed → TrayBack contexts stats rows list room p room'
-      back (packing.Payload n) q =
+      back : (p : Result ℕ ℕ) → packing_says p room' ≡ (pack_rows contexts stats rows list room).packed → TrayBack contexts stats rows list room p room'
+      back (Ok n) q =
           subst (λ (l : List ℕ). TrayRows (take n l) contexts stats rows list) (sym (ap (λ (z : BinsPacked). z.room) q)) (rows_are_read n (ap (λ (z : BinsPacked). z.answer) (sym q)))
-      back (packing.Refused n) q = ap (λ (z : BinsPacked). z.room) (q ∙ rows_refused n (ap (λ (z : BinsPacked). z.answer) (sym q)))
+      back (Err n) q = ap (λ (z : BinsPacked). z.room) (q ∙ rows_refused n (ap (λ (z : BinsPacked). z.answer) (sym q)))

@@ -24,12 +24,10 @@ fn records_refusal(records: &[[u8; 14]]) -> u32
     ensures { result ≡ records_refusal (records_of records.now) }
 {
     let block = [0i32; 1024];
-    let mut i: usize = 0;
-    while i < records.len() {
-        if parameter_refusal(params_of(records[i]), &block) != 0 {
+    for record in records {
+        if parameter_refusal(params_of(*record), &block) != 0 {
             return 4;
         }
-        i += 1;
     }
     0
 }
@@ -70,7 +68,7 @@ pub fn pack_tray(
     if n != 0 {
         return TrayPacking {
             done: 0,
-            packing: Packing::Refused(n),
+            packing: Err(n),
         };
     }
     let read = read_lists(stats, records, list);
@@ -83,6 +81,6 @@ pub fn pack_tray(
     }
     TrayPacking {
         done,
-        packing: Packing::Refused(13),
+        packing: Err(13),
     }
 }

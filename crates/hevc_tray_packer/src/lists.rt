@@ -12,28 +12,27 @@ ghost use Rattle.hevc_tray_packer.specs.ListCode.{SaysList, lists_seen};
 use bins::places::SourcePlace;
 use bins::state::Interval;
 use bins::tags::CONTEXTS;
-use hevc_block::block::{Blocked, read_block};
+use hevc_block::block::read_block;
 use hevc_residual::params::Params;
 use hevc_sizes::sizes::area_of;
 use hevc_tray_reader::rows::params_of;
 use tables::decision_table;
 
-// The place behind a block's list, or none.
-#[derive(Clone, Copy)]
-pub enum Listed {
-    To(usize),
-    Refused,
-}
-
-// How many lists were read, and whether they are all that there is.
+// How many lists were read, and whether they are all that there is. A Result would be no plainer: the count is told of both.
 #[derive(Clone, Copy)]
 pub struct Lists {
     pub done: usize,
     pub whole: bool,
 }
 
-// The list that begins at a place, into 1,024 places of the function's own. The statistics go on to the next.
-fn one_list(table: &[u32; 512], stats: &mut [u8; 4], list: &[u8], p: Params, at: usize) -> Listed
+// The place behind the list that begins at a place, or none where it is refused. Its block goes into 1,024 places of the function's own, the statistics on to the next.
+fn one_list(
+    table: &[u32; 512],
+    stats: &mut [u8; 4],
+    list: &[u8],
+    p: Params,
+    at: usize,
+) -> Option<usize>
     requires { (table.now ≡ decisions) × (0 ≡ parameter_refusal p places) × Statistics stats.old × (at ≤ length list.now) }
     ensures { SaysList p list.now at stats.old result stats.new }
 {
@@ -55,11 +54,10 @@ fn one_list(table: &[u32; 512], stats: &mut [u8; 4], list: &[u8], p: Params, at:
         &mut block[..n],
         front,
     );
-    let Blocked::Got(_, x) = r else {
-        return Listed::Refused;
-    };
-    let end = x.position;
-    Listed::To(end.0)
+    match r {
+        Ok(read) => Some(read.next.position.0),
+        Err(_) => None,
+    }
 }
 
 // List after list, by one table.
@@ -70,26 +68,17 @@ pub fn read_lists(stats: &[u8; 4], records: &[[u8; 14]], list: &[u8]) -> Lists
     let table = decision_table();
     let mut st = *stats;
     let mut at: usize = 0;
-    let mut i: usize = 0;
-    while i < records.len() {
-        let r = one_list(&table, &mut st, list, params_of(records[i]), at);
-        let Listed::To(end) = r else {
+    for (i, record) in records.iter().enumerate() {
+        let Some(end) = one_list(&table, &mut st, list, params_of(*record), at) else {
             return Lists {
                 done: i,
                 whole: false,
             };
         };
         at = end;
-        i += 1;
-    }
-    if at == list.len() {
-        return Lists {
-            done: i,
-            whole: true,
-        };
     }
     Lists {
-        done: i,
-        whole: false,
+        done: records.len(),
+        whole: at == list.len(),
     }
 }

@@ -20,8 +20,8 @@ fn read_refusal(r: Read) -> u32
     ensures { result ≡ read_no r }
 {
     match r {
-        Read::Block(_, _) => 0,
-        Read::Refused(n) => n,
+        Ok(_) => 0,
+        Err(n) => n,
     }
 }
 
@@ -30,14 +30,12 @@ fn records_refusal(records: &[[u8; 14]], levels: &[i32]) -> u32
     ensures { result ≡ records_refusal (records_of records.now) levels.now }
 {
     let mut at: usize = 0;
-    let mut i: usize = 0;
-    while i < records.len() {
-        let p = params_of(records[i]);
+    for record in records {
+        let p = params_of(*record);
         if parameter_refusal(p, &levels[at..]) != 0 {
             return 4;
         }
         at += area_of(p.log2);
-        i += 1;
     }
     0
 }
@@ -106,9 +104,8 @@ fn read_blocks(
     let table = decision_table();
     let mut state = e;
     let mut at: usize = 0;
-    let mut i: usize = 0;
-    while i < records.len() {
-        let p = params_of(records[i]);
+    for (i, record) in records.iter().enumerate() {
+        let p = params_of(*record);
         let end = at + area_of(p.log2);
         let r = read_checked(
             &table,
@@ -119,20 +116,19 @@ fn read_blocks(
             p,
             &mut levels[at..end],
         );
-        let Read::Block(f, next) = r else {
+        let Ok(b) = r else {
             return Tray {
                 done: i,
                 number: read_refusal(r),
                 state,
             };
         };
-        found[i] = row_of(f);
-        state = next;
+        found[i] = row_of(b.found);
+        state = b.state;
         at = end;
-        i += 1;
     }
     Tray {
-        done: i,
+        done: records.len(),
         number: 0,
         state,
     }

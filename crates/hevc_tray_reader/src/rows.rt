@@ -1,6 +1,5 @@
 // A record of parameters, and what is found of a block, as rows of numbers: a slice of structs cannot be lent.
 ghost use Rattle.std.specs.Prelude.{◌≡◌};
-ghost use Rattle.bins.specs.Engine.{bit_no};
 ghost use Rattle.hevc_tray.specs.Rows.{params_of, rdpcm_no, flags_refusal, rows_refusal};
 ghost use Rattle.hevc_tray.specs.Seen.{row_of};
 
@@ -8,13 +7,7 @@ use hevc_checks::checks::above_refusal;
 use hevc_residual::answers::Found;
 use hevc_residual::params::{Params, Rdpcm};
 
-fn bit_of(b: bool) -> u32
-    ensures { result ≡ bit_no b }
-{
-    if b { 1 } else { 0 }
-}
-
-// The parameters that a record means.
+// The parameters that a record means. No `From`: row and record are both of other crates.
 pub fn params_of(row: [u8; 14]) -> Params
     ensures { result ≡ params_of row }
 {
@@ -57,29 +50,22 @@ fn rdpcm_number(r: Rdpcm) -> u32
     }
 }
 
-// What is found of a block, as a row.
+// What is found of a block, as a row: no `From` either.
 pub fn row_of(f: Found) -> [u32; 5]
     ensures { result ≡ row_of f }
 {
-    let kind = f.rdpcm;
-    let skip = bit_of(f.skip);
-    let rdpcm = rdpcm_number(kind);
-    let column = f.column;
-    let row = f.row;
-    let greatest = f.greatest;
-    [skip, rdpcm, column, row, greatest]
+    let rdpcm = rdpcm_number(f.rdpcm);
+    [u32::from(f.skip), rdpcm, f.column, f.row, f.greatest]
 }
 
 // 4: a record with a flag above 1
 pub fn rows_refusal(records: &[[u8; 14]]) -> u32
     ensures { result ≡ rows_refusal records.now }
 {
-    let mut i: usize = 0;
-    while i < records.len() {
-        if flags_refusal(records[i]) != 0 {
+    for record in records {
+        if flags_refusal(*record) != 0 {
             return 4;
         }
-        i += 1;
     }
     0
 }

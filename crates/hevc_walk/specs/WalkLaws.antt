@@ -1,6 +1,6 @@
 -- The loop over sub-blocks, from the last one down: what is left to run. Assumes nothing.
-use Rattle.std.specs.Prelude.{ℕ, suc, ◌*◌, ◌≤◌, ◌≡◌, refl, Bool, List, ℤ, length}
-use Rattle.std.proofs.Common.{sym, subst, ◌∙◌, arith}
+use Rattle.std.specs.Prelude.{ℕ, suc, ◌*◌, ◌≤◌, ◌≡◌, refl, Bool, List, ℤ, length, Result, Ok, Err}
+use Rattle.std.proofs.Common.{subst, ◌∙◌, arith}
 use Rattle.std.proofs.Math.Path.{ap}
 use Rattle.bins.specs.declared.state.Refusal.{Refusal}
 use Rattle.bins.specs.declared.state.Interval.{Interval}
@@ -18,7 +18,6 @@ use Rattle.hevc_elements.specs.ShapeLaws.{run_done}
 use Rattle.hevc_rules.specs.declared.coeffs.Carry.{Carry}
 use Rattle.hevc_stored.specs.declared.stored.Stored.{Stored}
 use Rattle.hevc_subblock.specs.declared.coeffs.Carried.{Carried}
-use Rattle.hevc_subblock.specs.declared.coeffs.Carried.TheVariants as carried
 use Rattle.hevc_residual.specs.Limits.{Statistics}
 use Rattle.hevc_rules.specs.CoeffsAgree.{Carries, acc_of}
 use Rattle.hevc_rules.specs.SubsAgree.{begun, last_of, last_in_of}
@@ -45,7 +44,7 @@ module _ (p : Params) (h : Head) (list : Bool) (l : List ℕ) (x : Interval) (cs
       record { few = omega arith; reads = r; carries = record { carry = omega arith; column = omega arith }; flags = f; places = m; statistics = s; goes = refl }
 
   module _ (n : ℕ) (c : Carry) (y : Interval) (ds : List ℕ) (coded : List Bool) (levels : List ℤ) (stats : List ℕ) (w : Walking n c y ds coded levels stats) where
-    pub walk_ends : n ≡ 0 → (k : Stored) → SaysSubs p h list l x cs coded₀ levels₀ stats₀ (carried.Got c k y) ds coded levels stats
+    pub walk_ends : n ≡ 0 → (k : Stored) → SaysSubs p h list l x cs coded₀ levels₀ stats₀ (Ok (record { carry = c; stored = k; next = y })) ds coded levels stats
     unfolding sub_blocks_s
     walk_ends q k = (w.carries, w.goes ∙ ap (λ k. from list l (left k c coded levels stats) y ds) q ∙ run_done list l (acc_of c coded levels stats) y ds)
 
@@ -57,7 +56,7 @@ module _ (p : Params) (h : Head) (list : Bool) (l : List ℕ) (x : Interval) (cs
     next_left i q = w.goes ∙ ap (λ k. from list l (left k c coded levels stats) y ds) q
 
     -- r is what sub-block number i answered
-    module _ (i : ℕ) (q : n ≡ suc i) (r : Carried) (es : List ℕ) (coded' : List Bool) (levels' : List ℤ) (stats' : List ℕ)
+    module _ (i : ℕ) (q : n ≡ suc i) (r : Result Carried Refusal) (es : List ℕ) (coded' : List Bool) (levels' : List ℤ) (stats' : List ℕ)
         (e : SaysSub p h list l (last_of p h) (last_in_of p h) i c y ds coded levels stats r es coded' levels' stats') where
       abbrev sub : S Acc
       sub = sub_block_s p (head_of h) (outer_of p) (inner_of p) (last_of p h) (last_in_of p h) i (acc_of c coded levels stats)
@@ -65,22 +64,22 @@ module _ (p : Params) (h : Head) (list : Bool) (l : List ℕ) (x : Interval) (cs
       abbrev on : Acc → S Acc
       on = λ a. sub_blocks_s p (head_of h) (outer_of p) (inner_of p) (last_of p h) (last_in_of p h) i a
 
-      pub walk_refused : (k : Refusal) → r ≡ carried.Refused k → SaysSubs p h list l x cs coded₀ levels₀ stats₀ r es coded' levels' stats'
+      pub walk_refused : (k : Refusal) → r ≡ Err k → SaysSubs p h list l x cs coded₀ levels₀ stats₀ (Err k) es coded' levels' stats'
       walk_refused k u =
-          let f : RefusedBy k (from list l sub y ds) = subst (λ (z : Carried). SaysSub p h list l (last_of p h) (last_in_of p h) i c y ds coded levels stats z es coded' levels' stats') u e in
+          let f : RefusedBy k (from list l sub y ds) = subst (λ (z : Result Carried Refusal). SaysSub p h list l (last_of p h) (last_in_of p h) i c y ds coded levels stats z es coded' levels' stats') u e in
           let b = bind_no (by_code list l) sub on (cursor y ds) k f in
-          subst (λ (z : Carried). SaysSubs p h list l x cs coded₀ levels₀ stats₀ z es coded' levels' stats') (sym u) (b.0, next_left i q ∙ b.1)
+          (b.0, next_left i q ∙ b.1)
 
-      pub walk_on : (d : Carry) (k : Stored) (z : Interval) → r ≡ carried.Got d k z → length coded' ≡ width p * width p → length levels' ≡ area p → Statistics stats'
-          → Walking i d z es coded' levels' stats'
-      walk_on d k z u f m s =
-          let g = subst (λ (o : Carried). SaysSub p h list l (last_of p h) (last_in_of p h) i c y ds coded levels stats o es coded' levels' stats') u e in
+      pub walk_on : (v : Carried) → r ≡ Ok v → length coded' ≡ width p * width p → length levels' ≡ area p → Statistics stats'
+          → Walking i v.carry v.next es coded' levels' stats'
+      walk_on v u f m s =
+          let g = subst (λ (o : Result Carried Refusal). SaysSub p h list l (last_of p h) (last_in_of p h) i c y ds coded levels stats o es coded' levels' stats') u e in
           record {
             few = omega (arith, w.few);
-            reads = reads_on list l sub y ds (acc_of d coded' levels' stats') z es g.1 w.reads;
+            reads = reads_on list l sub y ds (acc_of v.carry coded' levels' stats') v.next es g.1 w.reads;
             carries = g.0;
             flags = f;
             places = m;
             statistics = s;
-            goes = next_left i q ∙ bind_ok (by_code list l) sub on (cursor y ds) (acc_of d coded' levels' stats') (cursor z es) g.1;
+            goes = next_left i q ∙ bind_ok (by_code list l) sub on (cursor y ds) (acc_of v.carry coded' levels' stats') (cursor v.next es) g.1;
           }

@@ -9,7 +9,7 @@ ghost use Rattle.hevc_subblock.specs.CarriedKeeps.{KeepsOn};
 ghost use Rattle.hevc_rules.specs.SubsAgree.{Last};
 ghost use Rattle.hevc_sub_blocks.specs.SubsAgree.{SaysSubs};
 
-use bins::state::Interval;
+use bins::state::{Interval, Refusal};
 use bins::tags::CONTEXTS;
 use hevc_head_rules::head::Head;
 use hevc_magnitudes::magnitudes::range_bits;
@@ -34,7 +34,7 @@ pub fn sub_blocks(
     p: Params,
     h: Head,
     x: Interval,
-) -> Carried
+) -> Result<Carried, Refusal>
     requires { Reads list bytes.now x contexts.old × (table.now ≡ decisions) × Last p h × (length coded.old ≡ width p * width p) × (block.old ≡ replicate (area p) (pos 0)) × Statistics stats.old }
     ensures { (length block.new ≡ area p) × Statistics stats.new × SaysSubs p h list bytes.now x contexts.old coded.old block.old stats.old result contexts.new coded.new block.new stats.new × KeepsOn p result block.new }
 {
@@ -44,32 +44,44 @@ pub fn sub_blocks(
     let w = width_of(p.log2);
     let last = number_in(p.log2 - 2, p.scan, h.x / 4, h.y / 4);
     let lastin = number_in(2, p.scan, h.x % 4, h.y % 4);
-    let mut c = Carry {
-        carry: 1,
-        first: true,
-        column: 0,
+    let mut so_far = Carried {
+        carry: Carry {
+            carry: 1,
+            first: true,
+            column: 0,
+        },
+        stored: Stored {
+            greatest: 0,
+            far: 0,
+            clean: true,
+        },
+        next: x,
     };
-    let mut k = Stored {
-        greatest: 0,
-        far: 0,
-        clean: true,
-    };
-    let mut y = x;
-    let mut i = last + 1;
-    while 0 < i {
-        i -= 1;
+    for i in (0..last + 1).rev() {
         let xs = outer[i as usize][0] as u32;
         let ys = outer[i as usize][1] as u32;
-        let r = sub_block(
-            list, table, contexts, bytes, &order, coded, block, stats, p, t, h, last, lastin, i, w,
-            xs, ys, c, k, y,
-        );
-        let Carried::Got(d, told, z) = r else {
-            return r;
-        };
-        c = d;
-        k = told;
-        y = z;
+        so_far = sub_block(
+            list,
+            table,
+            contexts,
+            bytes,
+            &order,
+            coded,
+            block,
+            stats,
+            p,
+            t,
+            h,
+            last,
+            lastin,
+            i,
+            w,
+            xs,
+            ys,
+            so_far.carry,
+            so_far.stored,
+            so_far.next,
+        )?;
     }
-    Carried::Got(c, k, y)
+    Ok(so_far)
 }

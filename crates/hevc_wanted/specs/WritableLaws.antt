@@ -2,7 +2,7 @@
 use Prim.Native.Nat.{ℕ, zero, suc, ◌+◌, ◌-◌, ◌*◌, ◌/◌, ◌%◌, ◌^◌, ◌≤◌, ◌<◌}
 use Rattle.std.proofs.Math.Path.{◌≡◌, refl, sym, ap, ap₂, subst}
 use Rattle.std.proofs.Common.{◌∙◌, pow-add}
-use Rattle.std.specs.Prelude.{Bool, not, ◌&&◌, ◌||◌, cond, List, [], ◌∷◌, ℤ, pos, eqb, length, get_or}
+use Rattle.std.specs.Prelude.{Bool, ◌&&◌, cond, List, [], ◌∷◌, ℤ, pos, eqb, length, get_or}
 use Rattle.std.proofs.Math.Bool.{true, false}
 use native.Mathlib.Omega.{arith}
 use Rattle.std.proofs.Math.IntN.{nat_abs}
@@ -11,7 +11,7 @@ use Rattle.std.proofs.Math.Pow.{pow_mono}
 use borrow.Author.Tests.{ltb-true, lt-ltb, eqb-false}
 use Rattle.hevc_residual.specs.declared.params.Params.{Params}
 use Rattle.hevc_residual.specs.Scan.{Spot, spot}
-use Rattle.hevc_residual.specs.Wanted.{Wanted, area, width, cell_of, level_at, negative, outer_of, inner_of, spot_in, wanted_in, is_sig}
+use Rattle.hevc_residual.specs.Wanted.{Wanted, area, width, cell_of, level_at, outer_of, inner_of, spot_in, wanted_in, is_sig}
 use Rattle.hevc_residual.specs.Head.{last_wanted}
 use Rattle.hevc_residual.specs.Remainder.{log2_transform_range}
 use Rattle.hevc_residual.specs.Refusal.{all_zero, not_coded, too_far, any_disagrees, write_refusal}

@@ -29,14 +29,12 @@ pub fn place_in(order: &[[u8; 2]; 16], p: Params, xs: u32, ys: u32, k: usize) ->
     Place { x, y }
 }
 
-// (0, 0) where the block has no level.
+// (0, 0) where the block has no level: an Option would be no plainer, since the syntax itself says (0, 0) there, and 9 keeps the writer from asking.
 pub fn last_wanted(block: &[i32], order: &[[u8; 2]; 16], outer: &[[u8; 2]; 64], p: Params) -> Place
     requires { (order.now ≡ pairs_of (inner_of p)) × Orders (4 ^ (p.log2 - 2)) (outer_of p) outer.now × Accepted p × (length block.now ≡ area p) }
     ensures { ((w : Wanted) → w.levels ≡ block.now → spot result.x result.y ≡ last_wanted p (outer_of p) (inner_of p) w (area p)) × Inside p result }
 {
-    let mut i = grid(p.log2);
-    while 0 < i {
-        i -= 1;
+    for i in (0..grid(p.log2)).rev() {
         let c = corner_at(outer, p, i);
         let s = places_at(block, order, p, c.xs, c.ys);
         if 0 < s.count {

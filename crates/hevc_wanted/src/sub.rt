@@ -1,5 +1,5 @@
 // One sub-block of the block: its 16 levels in the order of its scan, which places have one, and what they come to.
-ghost use Rattle.std.specs.Prelude.{◌≡◌, ◌+◌, ◌-◌, ◌^◌, ◌≤◌, ◌<◌, max, pos, nat_abs, ltb, length, get_or};
+ghost use Rattle.std.specs.Prelude.{◌≡◌, ◌+◌, ◌-◌, ◌^◌, ◌≤◌, ◌<◌, pos, nat_abs, ltb, length, get_or};
 ghost use Rattle.bins.specs.Engine.{bit_no};
 ghost use Rattle.hevc_residual.specs.Wanted.{Wanted, area, outer_of, inner_of, wanted_in, down_from, sig_places, cell_of, spot_in, none};
 ghost use Rattle.hevc_residual.specs.Scan.{spot};
@@ -41,13 +41,6 @@ fn level_at(block: &[i32], order: &[[u8; 2]; 16], p: Params, xs: u32, ys: u32, k
     block[at]
 }
 
-// The greater of two.
-pub fn greater_of(a: u32, b: u32) -> u32
-    ensures { result ≡ max a b }
-{
-    if a < b { b } else { a }
-}
-
 // The magnitude in a cell.
 fn size_at(block: &[i32], at: usize) -> u32
     requires { at < length block.now }
@@ -61,9 +54,9 @@ fn row_most(block: &[i32], at: usize) -> u32
     requires { at + 4 ≤ length block.now }
     ensures { result ≡ row_most block.now at }
 {
-    let a = greater_of(size_at(block, at), size_at(block, at + 1));
-    let b = greater_of(size_at(block, at + 2), size_at(block, at + 3));
-    greater_of(a, b)
+    let a = size_at(block, at).max(size_at(block, at + 1));
+    let b = size_at(block, at + 2).max(size_at(block, at + 3));
+    a.max(b)
 }
 
 // The first cell in row j of sub-block (xs, ys).
@@ -83,7 +76,7 @@ pub fn is_bare(block: &[i32], p: Params, xs: u32, ys: u32) -> bool
     let b = row_most(block, row_at(p, xs, ys, 1));
     let c = row_most(block, row_at(p, xs, ys, 2));
     let d = row_most(block, row_at(p, xs, ys, 3));
-    greater_of(greater_of(a, b), greater_of(c, d)) == 0
+    a.max(b).max(c.max(d)) == 0
 }
 
 // The levels of sub-block (xs, ys).
@@ -92,10 +85,8 @@ pub fn levels_of(block: &[i32], order: &[[u8; 2]; 16], p: Params, xs: u32, ys: u
     ensures { (w : Wanted) → w.levels ≡ block.now → Shows (wanted_in p (inner_of p) (spot xs ys)) w result }
 {
     let mut levels = [0i32; 16];
-    let mut k: usize = 0;
-    while k < 16 {
-        levels[k] = level_at(block, order, p, xs, ys, k);
-        k += 1;
+    for (k, level) in levels.iter_mut().enumerate() {
+        *level = level_at(block, order, p, xs, ys, k);
     }
     levels
 }
@@ -104,7 +95,7 @@ pub fn levels_of(block: &[i32], order: &[[u8; 2]; 16], p: Params, xs: u32, ys: u
 pub fn is_level(v: i32) -> u32
     ensures { (result ≡ bit_no (ltb 0 (nat_abs v))) × (result ≤ 1) }
 {
-    if 0 < magnitude(v) { 1 } else { 0 }
+    u32::from(0 < magnitude(v))
 }
 
 // The places with a level, highest first.
@@ -115,9 +106,7 @@ pub fn places_of(levels: &[i32; 16]) -> Places
         packed: 0,
         count: 0,
     };
-    let mut k: u32 = 16;
-    while 0 < k {
-        k -= 1;
+    for k in (0..16u32).rev() {
         s = appended(s, k, is_level(levels[k as usize]));
     }
     s
@@ -143,10 +132,8 @@ pub fn sum_of(levels: &[i32; 16]) -> u64
     ensures { result ≡ sum_below levels.now 16 }
 {
     let mut sum: u64 = 0;
-    let mut k: usize = 0;
-    while k < 16 {
-        sum += magnitude(levels[k]) as u64;
-        k += 1;
+    for level in levels {
+        sum += magnitude(*level) as u64;
     }
     sum
 }

@@ -1,8 +1,8 @@
 -- Laws of what a writer refuses: each loop of the code, each way out of it, and what a block that is not refused has. Assumes nothing.
 use Prim.Native.Nat.{ℕ, zero, suc, ◌+◌, ◌-◌, ◌*◌, ◌/◌, ◌%◌, ◌^◌, ◌≤◌, ◌<◌, max}
-use Rattle.std.specs.Prelude.{◌≡◌, refl, Bool, true, false, ◌&&◌, ◌||◌, cond, ℤ, pos, negsuc, nat_abs, eqb, leb, ltb}
+use Rattle.std.specs.Prelude.{◌≡◌, ◌↔◌, refl, Bool, true, false, ◌&&◌, ◌||◌, cond, IsTrue, EachIndex, ℤ, pos, negsuc, nat_abs, eqb, leb, ltb}
 use Rattle.std.proofs.Math.Path.{sym, ap, ap₂}
-use Rattle.std.proofs.Common.{◌∙◌, add-one, pow_pos, pow_mono, drop_of_length-le, ltb-true, ltb-false, leb-true, leb-false, le-leb, eq-eqb, ne_eqb}
+use Rattle.std.proofs.Common.{◌∙◌, add-one, pow_pos, pow_mono, drop_of_length-le, ltb-true, ltb-false, leb-true, leb-false, le-leb, eq-eqb, ne_eqb, eqb-true}
 use Rattle.std.proofs.Math.Bool.{not}
 use Rattle.std.specs.Bool.{beq}
 use mathlib.Core.List.{List, [], ◌∷◌}
@@ -78,6 +78,32 @@ module _ (l : List ℤ) (i m : ℕ) (z : Zeros l i) (h : i < length l) (q : m �
 pub zeros_end : (l : List ℤ) (i : ℕ) → Zeros l i → length l ≤ i → true ≡ all_zero l
 unfolding all_zero
 zeros_end l i z h = sym (ap all_zero (drop_of_length-le l h)) ∙ z.left
+
+-- a test of every level at once
+zeros_each : (l : List ℤ) → all_zero l ≡ true → EachIndex l (λ k. nat_abs (get_or l k (pos 0)) ≡ 0)
+unfolding all_zero
+zeros_each [] q = λ k h. absurd (omega arith)
+zeros_each (v ∷ l) q = go (eqb (nat_abs v) 0) refl q (zeros_each l)
+  where
+    go : (d : Bool) → eqb (nat_abs v) 0 ≡ d → (d && all_zero l) ≡ true → (all_zero l ≡ true → EachIndex l (λ k. nat_abs (get_or l k (pos 0)) ≡ 0))
+        → EachIndex (v ∷ l) (λ k. nat_abs (get_or (v ∷ l) k (pos 0)) ≡ 0)
+    go true e u r zero h = eqb-true (nat_abs v) 0 e
+    go true e u r (suc k) h = r u k (omega arith)
+    go false e u r k h = let z : ◌≡◌ {A = ℕ} 0 1 = cc in absurd (omega arith)
+
+each_zero : (l : List ℤ) → EachIndex l (λ k. nat_abs (get_or l k (pos 0)) ≡ 0) → all_zero l ≡ true
+unfolding all_zero
+each_zero [] f = refl
+each_zero (v ∷ l) f = rw (eq-eqb (nat_abs v) 0 (f 0 (omega arith))) (each_zero l (λ k h. f (suc k) (omega arith)))
+
+-- a test of each level is the test of all
+pub zeros_told : (l : List ℤ) (b : Bool) → IsTrue b ↔ EachIndex l (λ k. nat_abs (get_or l k (pos 0)) ≡ 0) → b ≡ all_zero l
+zeros_told l true t = sym (each_zero l (t.0 refl))
+zeros_told l false t = go (all_zero l) refl
+  where
+    go : (d : Bool) → all_zero l ≡ d → false ≡ d
+    go true q = t.1 (zeros_each l q)
+    go false q = refl
 
 -- ---- 8
 -- what is in range is told by how far it reaches

@@ -19,21 +19,14 @@ use hevc_places::places::Places;
 use hevc_residual::params::{Params, Rdpcm};
 use hevc_scans::orders::{inner_order, outer_order};
 use hevc_sizes::sizes::grid;
-use hevc_wanted::sub::{corner_at, greater_of, is_bare, levels_of, places_of, sum_of};
+use hevc_wanted::sub::{corner_at, is_bare, levels_of, places_of, sum_of};
 use level_sizes::sizes::{is_negative, magnitude};
 
 // 9: all levels are zero.
 fn all_zero(block: &[i32]) -> bool
     ensures { result ≡ all_zero block.now }
 {
-    let mut i: usize = 0;
-    while i < block.len() {
-        if 0 < magnitude(block[i]) {
-            return false;
-        }
-        i += 1;
-    }
-    true
+    block.iter().all(|level| magnitude(*level) == 0)
 }
 
 fn is_set(r: Rdpcm) -> bool
@@ -46,29 +39,11 @@ fn is_set(r: Rdpcm) -> bool
     }
 }
 
-fn skip_not_coded(p: Params, skip: bool) -> bool
-    ensures { result ≡ (skip && not (skip_coded p)) }
-{
-    if skip { !skip_coded(p) } else { false }
-}
-
-fn rdpcm_not_coded(p: Params, skip: bool, rdpcm: Rdpcm) -> bool
-    ensures { result ≡ (rdpcm_flag rdpcm && not (rdpcm_coded p skip)) }
-{
-    if is_set(rdpcm) {
-        return !rdpcm_coded(p, skip);
-    }
-    false
-}
-
 // 10: skip or RDPCM is set where it isn't coded.
 fn not_coded(p: Params, skip: bool, rdpcm: Rdpcm) -> bool
     ensures { result ≡ ((skip && not (skip_coded p)) || (rdpcm_flag rdpcm && not (rdpcm_coded p skip))) }
 {
-    if skip_not_coded(p, skip) {
-        return true;
-    }
-    rdpcm_not_coded(p, skip, rdpcm)
+    (skip && !skip_coded(p)) || (is_set(rdpcm) && !rdpcm_coded(p, skip))
 }
 
 // A level lies outside the coefficient range, as the smallest i32 does in every range.
@@ -93,10 +68,8 @@ fn too_far(t: u32, block: &[i32]) -> bool
     ensures { result ≡ too_far t block.now }
 {
     let mut most: u32 = 0;
-    let mut at: usize = 0;
-    while at < block.len() {
-        most = greater_of(most, reach(block[at]));
-        at += 1;
+    for level in block {
+        most = most.max(reach(*level));
     }
     1 << t <= most
 }
@@ -109,12 +82,6 @@ fn lowest(s: Places) -> usize
     ((s.packed >> (4 * (s.count - 1))) % 16) as usize
 }
 
-fn differ(a: bool, b: bool) -> bool
-    ensures { result ≡ not (beq a b) }
-{
-    if a { !b } else { b }
-}
-
 // The sign at the lowest of the places is not the parity of the sum.
 fn sign_off(levels: &[i32; 16], s: Places) -> bool
     requires { Packs s × (0 < s.count) }
@@ -122,7 +89,7 @@ fn sign_off(levels: &[i32; 16], s: Places) -> bool
 {
     let low = lowest(s);
     let sign = is_negative(levels[low]);
-    differ(sign, sum_of(levels) % 2 == 1)
+    sign != (sum_of(levels) % 2 == 1)
 }
 
 // 11 in one sub-block: its hidden sign disagrees with its parity.
@@ -169,13 +136,10 @@ fn any_disagrees(block: &[i32], p: Params, h: Head) -> bool
     }
     let order = inner_order(p.scan);
     let outer = outer_order(p.log2, p.scan);
-    let n = grid(p.log2);
-    let mut i: usize = 0;
-    while i < n {
+    for i in 0..grid(p.log2) {
         if disagrees_at(block, &order, &outer, p, h, i) {
             return true;
         }
-        i += 1;
     }
     false
 }

@@ -1,6 +1,6 @@
 -- The entry point: what its answers say, and its ways out. Assumes nothing.
 use Prim.Native.Nat.{ℕ, zero, suc, ◌≤◌, ◌<◌}
-use Rattle.std.specs.Prelude.{◌≡◌, Bool, true, not, ℤ, take, leb}
+use Rattle.std.specs.Prelude.{◌≡◌, Bool, true, not, ℤ, take, leb, Ok, Err}
 use Rattle.std.proofs.Math.Path.{refl, sym, ap, subst}
 use Rattle.std.proofs.Common.{◌∙◌, arith, length-take-le}
 use Rattle.std.proofs.Math.Bool.{false, cond}
@@ -26,7 +26,6 @@ use Rattle.hevc_longest.specs.Longest.{longest}
 use Rattle.hevc_longest.proofs.LongestLaws.{longest_enough}
 use Rattle.pen.specs.declared.room.Pen.{Pen}
 use Rattle.pen.specs.Sheet.{Sheet, sheet, entered_all}
-use Rattle.hevc_residual.specs.declared.answers.Written.TheVariants as listed
 use Rattle.pen.specs.RoomPuts.{pen_at, counted_same, counted_long, counted_short, written_all}
 use Rattle.hevc_block_pen.specs.BlockPuts.{wanted_of, Spells}
 
@@ -94,7 +93,7 @@ module _ (p : Params) (stats : List ℕ) (block : List ℤ) (skip : Bool) (rdpcm
   by n q = ap (λ k. write_bins_by k p stats w room) (sym q)
 
   -- 4, 3
-  pub refused_first : (n : ℕ) → n ≡ bins_checks stats p block → (n ≡ 0 → ⊥) → bins_written (listed.Refused n) stats room ≡ write_bins p stats block skip rdpcm room
+  pub refused_first : (n : ℕ) → n ≡ bins_checks stats p block → (n ≡ 0 → ⊥) → bins_written (Err n) stats room ≡ write_bins p stats block skip rdpcm room
   refused_first n q h = by_no n h ∙ by n (first_no (parameter_refusal p block) (statistics_refusal stats) (write_refusal p w) n q h)
 
   module _ (pass : 0 ≡ bins_checks stats p block) where
@@ -120,7 +119,7 @@ module _ (p : Params) (stats : List ℕ) (block : List ℤ) (skip : Bool) (rdpcm
       same = ap (wanted_of skip rdpcm) el
 
       pub refused_second : (n : ℕ) → n ≡ write_refusal p (wanted_of skip rdpcm levels) → (n ≡ 0 → ⊥)
-          → bins_written (listed.Refused n) stats room ≡ write_bins p stats block skip rdpcm room
+          → bins_written (Err n) stats room ≡ write_bins p stats block skip rdpcm room
       refused_second n q h = by_no n h ∙ by n (passed.2 ∙ ap (write_refusal p) (sym same) ∙ sym q)
 
       module _ (ok : write_refusal p (wanted_of skip rdpcm levels) ≡ 0) where
@@ -140,18 +139,18 @@ module _ (p : Params) (stats : List ℕ) (block : List ℤ) (skip : Bool) (rdpcm
           fit_is = subst (λ (z : Wanted). Goes p stats z room fit) same goes list.1.answer list.0 list.2
 
           -- 12
-          pub no_room : fit ≡ false → bins_written (listed.Refused 12) stats room' ≡ write_bins p stats block skip rdpcm room
+          pub no_room : fit ≡ false → bins_written (Err 12) stats room' ≡ write_bins p stats block skip rdpcm room
           unfolding write_list write_list_by room_refusal
           no_room o =
               let h : length room < length list.0 = leb-false (length list.0) (length room) (sym fit_is ∙ o) in
               let e : room_refusal list.0 room ≡ 12 = ap (λ b. cond b 12 0) (lt-ltb (length room) (length list.0) h) in
-              ap (λ r. bins_written (listed.Refused 12) stats r) stands
+              ap (λ r. bins_written (Err 12) stats r) stands
               ∙ ap (λ n. write_list_by n list.0 list.1.answer.stats stats room) (sym e) ∙ lists
 
           -- written
           pub all_written : fit ≡ true → (st' room'' : List ℕ) (pen' : Pen)
               → Spells p (wanted_of skip rdpcm levels) stats st' (sheet room' (pen_at 0 false true)) (sheet room'' pen')
-              → bins_written (listed.List pen'.at) st' room'' ≡ write_bins p stats block skip rdpcm room
+              → bins_written (Ok pen'.at) st' room'' ≡ write_bins p stats block skip rdpcm room
           unfolding write_list write_list_by room_refusal
           all_written o st' room'' pen' d =
               let l = list.0 in
@@ -164,7 +163,7 @@ module _ (p : Params) (stats : List ℕ) (block : List ℤ) (skip : Bool) (rdpcm
               let g : sheet room'' pen' ≡ sheet (l ++ drop (length l) room) (pen_at (length l) false true) = sym f.0 ∙ written_all l room h in
               let gr : room'' ≡ l ++ drop (length l) room = ap (λ (z : Sheet). z.room) g in
               let ga : pen'.at ≡ length l = ap (λ (z : Sheet). z.pen.at) g in
-              let same_answer : bins_written (listed.List pen'.at) st' room'' ≡ write_list_by 0 l list.1.answer.stats stats room =
-              ap (λ n. bins_written (listed.List n) st' room'') ga ∙ ap (λ r. bins_written (listed.List (length l)) st' r) gr
-              ∙ ap (λ t. bins_written (listed.List (length l)) t (l ++ drop (length l) room)) (sym f.1) in
+              let same_answer : bins_written (Ok pen'.at) st' room'' ≡ write_list_by 0 l list.1.answer.stats stats room =
+              ap (λ n. bins_written (Ok n) st' room'') ga ∙ ap (λ r. bins_written (Ok (length l)) st' r) gr
+              ∙ ap (λ t. bins_written (Ok (length l)) t (l ++ drop (length l) room)) (sym f.1) in
               same_answer ∙ ap (λ n. write_list_by n l list.1.answer.stats stats room) (sym e) ∙ lists

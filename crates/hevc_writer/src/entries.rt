@@ -90,15 +90,15 @@ pub fn write_bins(
 {
     let a = bins_checks(stats, p, block);
     if a != 0 {
-        return Written::Refused(a);
+        return Err(a);
     }
     let levels = &block[..area_of(p.log2)];
     let b = write_refusal(p, levels, skip, rdpcm);
     if b != 0 {
-        return Written::Refused(b);
+        return Err(b);
     }
     if !has_room(room, levels, stats, p, skip, rdpcm) {
-        return Written::Refused(12);
+        return Err(12);
     }
     let write = Pen {
         at: 0,
@@ -106,5 +106,5 @@ pub fn write_bins(
         writing: true,
     };
     let written = put_block(room, write, levels, stats, p, skip, rdpcm);
-    Written::List(written.at)
+    Ok(written.at)
 }

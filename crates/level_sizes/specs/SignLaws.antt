@@ -1,6 +1,6 @@
 -- Signs, and signed levels as the code makes them at 32 bits: an `i32` is an integer ℤ of `lib.IntN`, a cast to it is `to_z`, a store
 -- `to_z (of_z ..)`. Assumes nothing.
-use Rattle.std.specs.Prelude.{ℕ, zero, suc, ◌-◌, ◌/◌, ◌%◌, ◌^◌, ◌≤◌, ◌≡◌, refl, Bool, true, false, ℤ, pos, negsuc, neg_ℤ, ◌-ℤ◌}
+use Rattle.std.specs.Prelude.{ℕ, zero, suc, ◌≤◌, ◌≡◌, refl, Bool, true, false, ℤ, pos, negsuc, neg_ℤ, ◌-ℤ◌}
 use Rattle.std.proofs.Common.{subst, sym, ap, ◌∙◌, arith, le-ltb, SFits, to_z, of_z, to_z-of_z}
 use Rattle.std.proofs.Math.IntN.{+ℤ_idl}
 use Rattle.std.specs.Int.Signed.{lt_z}

@@ -6,10 +6,7 @@ ghost use Rattle.trees.specs.Levels.{negative, greatest_of};
 pub fn magnitude(v: i32) -> u32
     ensures { result ≡ nat_abs v }
 {
-    if v < 0 {
-        return (0 - v as i64) as u32;
-    }
-    v as u32
+    v.unsigned_abs()
 }
 
 pub fn is_negative(v: i32) -> bool
@@ -21,7 +18,7 @@ pub fn is_negative(v: i32) -> bool
 pub fn larger(a: u32, b: u32) -> u32
     ensures { result ≡ max a b }
 {
-    if a < b { b } else { a }
+    a.max(b)
 }
 
 // The greatest magnitude of the levels.
@@ -29,10 +26,8 @@ pub fn greatest(block: &[i32]) -> u32
     ensures { result ≡ greatest_of block.now }
 {
     let mut most: u32 = 0;
-    let mut i: usize = 0;
-    while i < block.len() {
-        most = larger(most, magnitude(block[i]));
-        i += 1;
+    for level in block {
+        most = larger(most, magnitude(*level));
     }
     most
 }

@@ -4,7 +4,7 @@ ghost use Rattle.bins.specs.Interval.{place_of};
 ghost use Rattle.bins.specs.Sources.{Tagged, behind, step_of, step_of_bits, entry_bin, entry_align, entries_on};
 
 use bins::places::{ListPlace, in_list, of_list};
-use bins::state::{Interval, Step};
+use bins::state::{Interval, Refusal, Step, Taken};
 use bins::tags::{ALIGNMENT, BYPASS};
 
 fn next_entry(x: Interval) -> Interval
@@ -43,10 +43,13 @@ pub fn bin(bytes: &[u8], number: u32, x: Interval) -> Step
         let entry = tag_at(bytes, i);
         if entry / 2 == number {
             let next = next_entry(x);
-            return Step::Bin(entry % 2, next);
+            return Ok(Taken {
+                value: entry % 2,
+                next,
+            });
         }
     }
-    Step::Refused(13, x)
+    Err(Refusal { number: 13, at: x })
 }
 
 pub fn align(bytes: &[u8], x: Interval) -> Step
@@ -60,10 +63,10 @@ pub fn align(bytes: &[u8], x: Interval) -> Step
         let entry = tag_at(bytes, i);
         if entry == ALIGNMENT {
             let next = next_entry(x);
-            return Step::Bin(0, next);
+            return Ok(Taken { value: 0, next });
         }
     }
-    Step::Refused(13, x)
+    Err(Refusal { number: 13, at: x })
 }
 
 // n bypass bins as a number.
@@ -73,15 +76,10 @@ pub fn bypass_bits(bytes: &[u8], x: Interval, n: u32) -> Step
 {
     let mut y = x;
     let mut v: u32 = 0;
-    let mut i: u32 = 0;
-    while i < n {
-        let s = bin(bytes, BYPASS, y);
-        let Step::Bin(b, next) = s else {
-            return s;
-        };
+    for _i in 0..n {
+        let Taken { value: b, next } = bin(bytes, BYPASS, y)?;
         v = v * 2 + b;
         y = next;
-        i += 1;
     }
-    Step::Bin(v, y)
+    Ok(Taken { value: v, next: y })
 }

@@ -3,7 +3,6 @@
 //     morning [BOOK]             of a book, or of standard input
 //     morning YESTERDAY TODAY    of two, beside each other, with what changed
 //     morning --pgm SIZE [BOOK]  the heat map of a size (4, 8, 16, 32) alone, as a PGM picture
-// The figures' arrays are apart as in `morning_add::adding::add_event`.
 // A book is the name of a file, or - for standard input.
 // A piece is read and fed: morning_sums::feeding says what that adds up to, and that no cut into pieces matters.
 #![tactic(auto)]
@@ -12,13 +11,15 @@ mod source; // source.rt: where a book comes from
 mod table; // table.rt: lines of the table, of one book and of two
 mod words; // words.rt: refusals in words
 
-ghost use Rattle.std.specs.Prelude.{◌≡◌, ◌+◌, ◌*◌, ◌≤◌, ◌<◌, length, IfOk};
+ghost use Rattle.std.specs.Prelude.{◌≡◌, ◌+◌, ◌*◌, ◌≤◌, ◌<◌, length, IfOk, IfSome};
 
 use book_lines::pending::first;
 use check::same;
+use figures::add::Totals;
 use morning_add::adding::Sizes;
 use morning_add::begin::begin_book;
 use morning_maps::maps;
+use morning_maps::maps::Blocks;
 use morning_sums::feeding::{Feeding, feed, finish};
 use source::Source;
 use std::alloc::Global;
@@ -26,97 +27,87 @@ use std::env::{Env, FillError};
 use std::fs::{File, Files};
 use std::io::{ErrorKind, Read, Stdin};
 use std::{io, str};
+use table::{Counted, Days};
 use text::fail::fail;
 use text::lines::part;
 use text::write;
 
-// More pieces than any input has: nothing says that the input ends, so the loop counts down.
+// More pieces than any input has: nothing says that the input ends, so the loop counts to this.
 const TURNS: u64 = 2251799813685248;
 
-#[derive(Clone, Copy)]
-pub struct Next {
-    pub state: Feeding,
-    pub more: bool,
-    pub read: bool, // as far as it went
+// What is added up of the blocks of a size: of each place how often it held a level, the sums and the greatest magnitudes.
+#[derive(Drop)]
+struct Size {
+    held: [u32; 1024],
+    sums: [u64; 1024],
+    greatests: [u32; 1024],
 }
 
-// A book that was read, or not.
-#[derive(Clone, Copy)]
-pub struct Book {
-    pub sizes: Sizes,
-    pub lines: u64,
-    pub read: bool,
+impl Size {
+    fn blocks(&self, totals: Totals) -> Blocks<'_> {
+        Blocks {
+            held: &self.held,
+            sums: &self.sums,
+            greatests: &self.greatests,
+            totals,
+        }
+    }
 }
 
-// One piece, or the end.
-fn turn(
+fn no_size() -> Size {
+    Size {
+        held: [0u32; 1024],
+        sums: [0u64; 1024],
+        greatests: [0u32; 1024],
+    }
+}
+
+// What is added up of a book beside its sizes' totals.
+#[derive(Drop)]
+struct Day {
+    of4: Size,
+    of8: Size,
+    of16: Size,
+    of32: Size,
+    tallies: [u32; 24],
+}
+
+fn no_day() -> Day {
+    Day {
+        of4: no_size(),
+        of8: no_size(),
+        of16: no_size(),
+        of32: no_size(),
+        tallies: [0u32; 24],
+    }
+}
+
+// A book that was read.
+#[derive(Clone, Copy)]
+struct Book {
+    sizes: Sizes,
+    lines: u64,
+}
+
+// The next piece, of so many bytes, 0 at the end; none where the book could not be read, which is told.
+fn read_piece(
     input: &mut impl Read,
     err: &impl Print,
     alloc: Global,
     piece: &mut [u8],
-    line: &mut [u8],
-    s: Feeding,
-    blocks4: &mut [u32; 1024],
-    sums4: &mut [u64; 1024],
-    greatests4: &mut [u32; 1024],
-    blocks8: &mut [u32; 1024],
-    sums8: &mut [u64; 1024],
-    greatests8: &mut [u32; 1024],
-    blocks16: &mut [u32; 1024],
-    sums16: &mut [u64; 1024],
-    greatests16: &mut [u32; 1024],
-    blocks32: &mut [u32; 1024],
-    sums32: &mut [u64; 1024],
-    greatests32: &mut [u32; 1024],
-    tallies: &mut [u32; 24],
-) -> io::Result<Next>
-    requires { (length piece.old ≡ 4096) × (length line.old ≡ 8469) × (s.line.held ≤ 8469) × (1 ≤ s.line.number) × (s.line.number + 4096 < 18446744073709551615) }
-    ensures { IfOk result (λ next. (next.state.line.held ≤ 8469) × (s.line.number ≤ next.state.line.number) × (next.state.line.number ≤ s.line.number + 4096)) }
+) -> io::Result<Option<usize>>
+    ensures { IfOk result (λ r. IfSome r (λ n. n ≤ length piece.new)) }
 {
-    let n = match input.read(piece) {
-        Ok(n) => n,
+    match input.read(piece) {
+        Ok(n) => Ok(Some(n)),
         Err(e) => {
             fail(err, alloc, b"the book", &e)?;
-            return Ok(Next {
-                state: s,
-                more: false,
-                read: false,
-            });
+            Ok(None)
         }
-    };
-    if n == 0 {
-        return Ok(Next {
-            state: s,
-            more: false,
-            read: true,
-        });
     }
-    let state = feed(
-        &piece[..n],
-        line,
-        s,
-        blocks4,
-        sums4,
-        greatests4,
-        blocks8,
-        sums8,
-        greatests8,
-        blocks16,
-        sums16,
-        greatests16,
-        blocks32,
-        sums32,
-        greatests32,
-        tallies,
-    );
-    Ok(Next {
-        state,
-        more: true,
-        read: true,
-    })
 }
 
-// Piece after piece, up to the end.
+// Piece after piece, up to the end; none where the book could not be read.
 fn turns(
     input: &mut impl Read,
     err: &impl Print,
@@ -124,143 +115,98 @@ fn turns(
     piece: &mut [u8],
     line: &mut [u8],
     sizes: Sizes,
-    blocks4: &mut [u32; 1024],
-    sums4: &mut [u64; 1024],
-    greatests4: &mut [u32; 1024],
-    blocks8: &mut [u32; 1024],
-    sums8: &mut [u64; 1024],
-    greatests8: &mut [u32; 1024],
-    blocks16: &mut [u32; 1024],
-    sums16: &mut [u64; 1024],
-    greatests16: &mut [u32; 1024],
-    blocks32: &mut [u32; 1024],
-    sums32: &mut [u64; 1024],
-    greatests32: &mut [u32; 1024],
-    tallies: &mut [u32; 24],
-) -> io::Result<Next>
+    day: &mut Day,
+) -> io::Result<Option<Feeding>>
     requires { (length piece.old ≡ 4096) × (length line.old ≡ 8469) }
-    ensures { IfOk result (λ next. (next.state.line.held ≤ 8469) × (1 ≤ next.state.line.number) × (next.state.line.number ≤ 9223372036854775809)) }
+    ensures { IfOk result (λ r. IfSome r (λ s. (s.line.held ≤ 8469) × (1 ≤ s.line.number) × (s.line.number ≤ 9223372036854775809))) }
 {
     let p = first();
     let mut s = Feeding { line: p, sizes };
-    let mut left = TURNS;
-    while 0 < left {
-        let r = turn(
-            input,
-            err,
-            alloc,
-            piece,
+    for _turn in 0..TURNS {
+        let Some(n) = read_piece(input, err, alloc, piece)? else {
+            return Ok(None);
+        };
+        if n == 0 {
+            return Ok(Some(s));
+        }
+        s = feed(
+            &piece[..n],
             line,
             s,
-            blocks4,
-            sums4,
-            greatests4,
-            blocks8,
-            sums8,
-            greatests8,
-            blocks16,
-            sums16,
-            greatests16,
-            blocks32,
-            sums32,
-            greatests32,
-            tallies,
-        )?;
-        if !r.more {
-            return Ok(r);
-        }
-        s = r.state;
-        left -= 1;
+            &mut day.of4.held,
+            &mut day.of4.sums,
+            &mut day.of4.greatests,
+            &mut day.of8.held,
+            &mut day.of8.sums,
+            &mut day.of8.greatests,
+            &mut day.of16.held,
+            &mut day.of16.sums,
+            &mut day.of16.greatests,
+            &mut day.of32.held,
+            &mut day.of32.sums,
+            &mut day.of32.greatests,
+            &mut day.tallies,
+        );
     }
-    Ok(Next {
-        state: s,
-        more: false,
-        read: true,
-    })
+    Ok(Some(s))
 }
 
-// All of a book. Its lines are counted by their numbers, an unfinished one among them.
+// All of a book; none where it could not be read. Its lines are counted by their numbers, an unfinished one among them.
 fn read_book(
     input: &mut impl Read,
     err: &impl Print,
     alloc: Global,
-    blocks4: &mut [u32; 1024],
-    sums4: &mut [u64; 1024],
-    greatests4: &mut [u32; 1024],
-    blocks8: &mut [u32; 1024],
-    sums8: &mut [u64; 1024],
-    greatests8: &mut [u32; 1024],
-    blocks16: &mut [u32; 1024],
-    sums16: &mut [u64; 1024],
-    greatests16: &mut [u32; 1024],
-    blocks32: &mut [u32; 1024],
-    sums32: &mut [u64; 1024],
-    greatests32: &mut [u32; 1024],
-    tallies: &mut [u32; 24],
-) -> io::Result<Book> {
+    day: &mut Day,
+) -> io::Result<Option<Book>> {
     let mut piece = [0u8; 4096];
     let mut line = [0u8; 8469];
     let sizes = begin_book(
-        blocks4,
-        sums4,
-        greatests4,
-        blocks8,
-        sums8,
-        greatests8,
-        blocks16,
-        sums16,
-        greatests16,
-        blocks32,
-        sums32,
-        greatests32,
-        tallies,
+        &mut day.of4.held,
+        &mut day.of4.sums,
+        &mut day.of4.greatests,
+        &mut day.of8.held,
+        &mut day.of8.sums,
+        &mut day.of8.greatests,
+        &mut day.of16.held,
+        &mut day.of16.sums,
+        &mut day.of16.greatests,
+        &mut day.of32.held,
+        &mut day.of32.sums,
+        &mut day.of32.greatests,
+        &mut day.tallies,
     );
-    let r = turns(
-        input,
-        err,
-        alloc,
-        &mut piece,
-        &mut line,
-        sizes,
-        blocks4,
-        sums4,
-        greatests4,
-        blocks8,
-        sums8,
-        greatests8,
-        blocks16,
-        sums16,
-        greatests16,
-        blocks32,
-        sums32,
-        greatests32,
-        tallies,
-    )?;
-    let s = r.state;
+    let Some(s) = turns(input, err, alloc, &mut piece, &mut line, sizes, day)? else {
+        return Ok(None);
+    };
     let t = finish(
         &line,
         s,
-        blocks4,
-        sums4,
-        greatests4,
-        blocks8,
-        sums8,
-        greatests8,
-        blocks16,
-        sums16,
-        greatests16,
-        blocks32,
-        sums32,
-        greatests32,
-        tallies,
+        &mut day.of4.held,
+        &mut day.of4.sums,
+        &mut day.of4.greatests,
+        &mut day.of8.held,
+        &mut day.of8.sums,
+        &mut day.of8.greatests,
+        &mut day.of16.held,
+        &mut day.of16.sums,
+        &mut day.of16.greatests,
+        &mut day.of32.held,
+        &mut day.of32.sums,
+        &mut day.of32.greatests,
+        &mut day.tallies,
     );
-    let z = t.sizes;
-    let behind = t.line.number;
-    Ok(Book {
-        sizes: z,
-        lines: behind - 1,
-        read: r.read,
-    })
+    Ok(Some(Book {
+        sizes: t.sizes,
+        lines: t.line.number - 1,
+    }))
+}
+
+fn counted(b: Book, day: &Day) -> Counted<'_> {
+    Counted {
+        lines: b.lines,
+        sizes: b.sizes,
+        tallies: &day.tallies,
+    }
 }
 
 // The table and the maps of one book.
@@ -270,65 +216,16 @@ fn one_book(
     err: &impl Print,
     alloc: Global,
 ) -> io::Result<()> {
-    let mut blocks4 = [0u32; 1024];
-    let mut sums4 = [0u64; 1024];
-    let mut greatests4 = [0u32; 1024];
-    let mut blocks8 = [0u32; 1024];
-    let mut sums8 = [0u64; 1024];
-    let mut greatests8 = [0u32; 1024];
-    let mut blocks16 = [0u32; 1024];
-    let mut sums16 = [0u64; 1024];
-    let mut greatests16 = [0u32; 1024];
-    let mut blocks32 = [0u32; 1024];
-    let mut sums32 = [0u64; 1024];
-    let mut greatests32 = [0u32; 1024];
-    let mut tallies = [0u32; 24];
-    let b = read_book(
-        input,
-        err,
-        alloc,
-        &mut blocks4,
-        &mut sums4,
-        &mut greatests4,
-        &mut blocks8,
-        &mut sums8,
-        &mut greatests8,
-        &mut blocks16,
-        &mut sums16,
-        &mut greatests16,
-        &mut blocks32,
-        &mut sums32,
-        &mut greatests32,
-        &mut tallies,
-    )?;
-    if !b.read {
+    let mut day = no_day();
+    let Some(b) = read_book(input, err, alloc, &mut day)? else {
         return Ok(());
-    }
+    };
     let z = b.sizes;
-    table::count(out, b.lines, b"lines")?;
-    table::size_of_one(out, b"4x4", z.of4)?;
-    table::size_of_one(out, b"8x8", z.of8)?;
-    table::size_of_one(out, b"16x16", z.of16)?;
-    table::size_of_one(out, b"32x32", z.of32)?;
-    table::refusals_of_one(out, &tallies, z.of4.totals)?;
-    maps::of_one(out, b"4x4", &blocks4, &sums4, &greatests4, z.of4.totals)?;
-    maps::of_one(out, b"8x8", &blocks8, &sums8, &greatests8, z.of8.totals)?;
-    maps::of_one(
-        out,
-        b"16x16",
-        &blocks16,
-        &sums16,
-        &greatests16,
-        z.of16.totals,
-    )?;
-    maps::of_one(
-        out,
-        b"32x32",
-        &blocks32,
-        &sums32,
-        &greatests32,
-        z.of32.totals,
-    )
+    table::of(out, Days::One(counted(b, &day)))?;
+    maps::of_one(out, b"4x4", day.of4.blocks(z.of4.totals))?;
+    maps::of_one(out, b"8x8", day.of8.blocks(z.of8.totals))?;
+    maps::of_one(out, b"16x16", day.of16.blocks(z.of16.totals))?;
+    maps::of_one(out, b"32x32", day.of32.blocks(z.of32.totals))
 }
 
 // One map of one book, as a picture.
@@ -339,46 +236,16 @@ fn picture(
     alloc: Global,
     log2: u32,
 ) -> io::Result<()> {
-    let mut blocks4 = [0u32; 1024];
-    let mut sums4 = [0u64; 1024];
-    let mut greatests4 = [0u32; 1024];
-    let mut blocks8 = [0u32; 1024];
-    let mut sums8 = [0u64; 1024];
-    let mut greatests8 = [0u32; 1024];
-    let mut blocks16 = [0u32; 1024];
-    let mut sums16 = [0u64; 1024];
-    let mut greatests16 = [0u32; 1024];
-    let mut blocks32 = [0u32; 1024];
-    let mut sums32 = [0u64; 1024];
-    let mut greatests32 = [0u32; 1024];
-    let mut tallies = [0u32; 24];
-    let b = read_book(
-        input,
-        err,
-        alloc,
-        &mut blocks4,
-        &mut sums4,
-        &mut greatests4,
-        &mut blocks8,
-        &mut sums8,
-        &mut greatests8,
-        &mut blocks16,
-        &mut sums16,
-        &mut greatests16,
-        &mut blocks32,
-        &mut sums32,
-        &mut greatests32,
-        &mut tallies,
-    )?;
-    if !b.read {
+    let mut day = no_day();
+    let Some(b) = read_book(input, err, alloc, &mut day)? else {
         return Ok(());
-    }
+    };
     let z = b.sizes;
     match log2 {
-        2 => maps::picture(out, &blocks4, &sums4, &greatests4, z.of4.totals),
-        3 => maps::picture(out, &blocks8, &sums8, &greatests8, z.of8.totals),
-        4 => maps::picture(out, &blocks16, &sums16, &greatests16, z.of16.totals),
-        _ => maps::picture(out, &blocks32, &sums32, &greatests32, z.of32.totals),
+        2 => maps::picture(out, day.of4.blocks(z.of4.totals)),
+        3 => maps::picture(out, day.of8.blocks(z.of8.totals)),
+        4 => maps::picture(out, day.of16.blocks(z.of16.totals)),
+        _ => maps::picture(out, day.of32.blocks(z.of32.totals)),
     }
 }
 
@@ -390,130 +257,44 @@ fn two_books(
     err: &impl Print,
     alloc: Global,
 ) -> io::Result<()> {
-    let mut blocks4 = [0u32; 1024];
-    let mut sums4 = [0u64; 1024];
-    let mut greatests4 = [0u32; 1024];
-    let mut blocks8 = [0u32; 1024];
-    let mut sums8 = [0u64; 1024];
-    let mut greatests8 = [0u32; 1024];
-    let mut blocks16 = [0u32; 1024];
-    let mut sums16 = [0u64; 1024];
-    let mut greatests16 = [0u32; 1024];
-    let mut blocks32 = [0u32; 1024];
-    let mut sums32 = [0u64; 1024];
-    let mut greatests32 = [0u32; 1024];
-    let mut tallies = [0u32; 24];
-    let mut blocks4_t = [0u32; 1024];
-    let mut sums4_t = [0u64; 1024];
-    let mut greatests4_t = [0u32; 1024];
-    let mut blocks8_t = [0u32; 1024];
-    let mut sums8_t = [0u64; 1024];
-    let mut greatests8_t = [0u32; 1024];
-    let mut blocks16_t = [0u32; 1024];
-    let mut sums16_t = [0u64; 1024];
-    let mut greatests16_t = [0u32; 1024];
-    let mut blocks32_t = [0u32; 1024];
-    let mut sums32_t = [0u64; 1024];
-    let mut greatests32_t = [0u32; 1024];
-    let mut tallies_t = [0u32; 24];
-    let y = read_book(
-        yesterday,
-        err,
-        alloc,
-        &mut blocks4,
-        &mut sums4,
-        &mut greatests4,
-        &mut blocks8,
-        &mut sums8,
-        &mut greatests8,
-        &mut blocks16,
-        &mut sums16,
-        &mut greatests16,
-        &mut blocks32,
-        &mut sums32,
-        &mut greatests32,
-        &mut tallies,
-    )?;
-    if !y.read {
+    let mut first_day = no_day();
+    let mut second_day = no_day();
+    let Some(y) = read_book(yesterday, err, alloc, &mut first_day)? else {
         return Ok(());
-    }
-    let t = read_book(
-        today,
-        err,
-        alloc,
-        &mut blocks4_t,
-        &mut sums4_t,
-        &mut greatests4_t,
-        &mut blocks8_t,
-        &mut sums8_t,
-        &mut greatests8_t,
-        &mut blocks16_t,
-        &mut sums16_t,
-        &mut greatests16_t,
-        &mut blocks32_t,
-        &mut sums32_t,
-        &mut greatests32_t,
-        &mut tallies_t,
-    )?;
-    if !t.read {
+    };
+    let Some(t) = read_book(today, err, alloc, &mut second_day)? else {
         return Ok(());
-    }
+    };
     let a = y.sizes;
     let b = t.sizes;
     table::heading(out)?;
-    table::both(out, y.lines, t.lines, b"lines")?;
-    table::size_of_both(out, b"4x4", a.of4, b.of4)?;
-    table::size_of_both(out, b"8x8", a.of8, b.of8)?;
-    table::size_of_both(out, b"16x16", a.of16, b.of16)?;
-    table::size_of_both(out, b"32x32", a.of32, b.of32)?;
-    table::refusals_of_both(out, &tallies, &tallies_t, a.of4.totals, b.of4.totals)?;
+    table::of(
+        out,
+        Days::Two(counted(y, &first_day), counted(t, &second_day)),
+    )?;
     maps::of_both(
         out,
         b"4x4",
-        &blocks4,
-        &sums4,
-        &greatests4,
-        a.of4.totals,
-        &blocks4_t,
-        &sums4_t,
-        &greatests4_t,
-        b.of4.totals,
+        first_day.of4.blocks(a.of4.totals),
+        second_day.of4.blocks(b.of4.totals),
     )?;
     maps::of_both(
         out,
         b"8x8",
-        &blocks8,
-        &sums8,
-        &greatests8,
-        a.of8.totals,
-        &blocks8_t,
-        &sums8_t,
-        &greatests8_t,
-        b.of8.totals,
+        first_day.of8.blocks(a.of8.totals),
+        second_day.of8.blocks(b.of8.totals),
     )?;
     maps::of_both(
         out,
         b"16x16",
-        &blocks16,
-        &sums16,
-        &greatests16,
-        a.of16.totals,
-        &blocks16_t,
-        &sums16_t,
-        &greatests16_t,
-        b.of16.totals,
+        first_day.of16.blocks(a.of16.totals),
+        second_day.of16.blocks(b.of16.totals),
     )?;
     maps::of_both(
         out,
         b"32x32",
-        &blocks32,
-        &sums32,
-        &greatests32,
-        a.of32.totals,
-        &blocks32_t,
-        &sums32_t,
-        &greatests32_t,
-        b.of32.totals,
+        first_day.of32.blocks(a.of32.totals),
+        second_day.of32.blocks(b.of32.totals),
     )
 }
 
@@ -548,20 +329,15 @@ fn file<R: Files>(rt: &R, name: &[u8]) -> io::Result<R::File> {
 
 // Puts an argument at the start of a buffer; answers how long it is, and 0 where it is missing or longer than the buffer.
 fn argument(rt: &impl Env, i: usize, word: &mut [u8]) -> usize {
-    match rt.arg(i, word) {
-        Ok(n) => n,
-        Err(_) => 0,
-    }
+    rt.arg(i, word).unwrap_or(0)
 }
 
 // How many arguments there are, the program's name among them; of more than 5 no more are counted.
 fn arguments(rt: &impl Env) -> usize {
-    let mut i: usize = 0;
-    while i < 5 {
+    for i in 0..5 {
         if let Err(FillError::NotPresent) = rt.arg(i, &mut []) {
             return i;
         }
-        i += 1;
     }
     5
 }
@@ -580,24 +356,24 @@ fn is_pgm(rt: &impl Env, i: usize) -> bool {
     same(part(&word, 0, n), b"--pgm")
 }
 
-// The log2 of the size that an argument names; 0 for none.
-fn size_named(rt: &impl Env, i: usize) -> u32 {
+// The log2 of the size that an argument names.
+fn size_named(rt: &impl Env, i: usize) -> Option<u32> {
     let mut word = [0u8; 4096];
     let n = argument(rt, i, &mut word);
     let size = part(&word, 0, n);
     if same(size, b"4") {
-        return 2;
+        return Some(2);
     }
     if same(size, b"8") {
-        return 3;
+        return Some(3);
     }
     if same(size, b"16") {
-        return 4;
+        return Some(4);
     }
     if same(size, b"32") {
-        return 5;
+        return Some(5);
     }
-    0
+    None
 }
 
 // --pgm SIZE, and a book or standard input.
@@ -609,10 +385,9 @@ fn pgm<R: Files + Env>(
     alloc: Global,
     count: usize,
 ) -> io::Result<()> {
-    let log2 = size_named(rt, 2);
-    if log2 == 0 {
+    let Some(log2) = size_named(rt, 2) else {
         return usage(err);
-    }
+    };
     if count == 3 {
         let mut book = input;
         return picture(&mut book, out, err, alloc, log2);

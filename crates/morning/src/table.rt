@@ -3,17 +3,41 @@
 ghost use Rattle.std.specs.Prelude.{◌≡◌, ◌≤◌};
 
 use crate::words::reason;
-use figures::add::Totals;
 use figures_read::out::tally_of;
-use morning_add::adding::One;
+use morning_add::adding::{One, Sizes};
 use std::io;
 use text::write;
 
+// What was counted in a book.
+#[derive(Clone, Copy)]
+pub struct Counted<'a> {
+    pub lines: u64,
+    pub sizes: Sizes,
+    pub tallies: &'a [u32; 24],
+}
+
+// Of one book, or of two: yesterday's and today's.
+#[derive(Clone, Copy)]
+pub enum Days<T> {
+    One(T),
+    Two(T, T),
+}
+
+impl<T: Copy> Days<T> {
+    // What a function gives of each.
+    fn map<U, F: Fn(T) -> U>(self, f: F) -> Days<U>
+        requires { F.IsAlwaysCallable f }
+    {
+        match self {
+            Days::One(t) => Days::One(f(t)),
+            Days::Two(yesterday, today) => Days::Two(f(yesterday), f(today)),
+        }
+    }
+}
+
 fn spaces(out: &impl Print, n: usize) -> io::Result<()> {
-    let mut i: usize = 0;
-    while i < n {
+    for _ in 0..n {
         write::text(out, b" ")?;
-        i += 1;
     }
     Ok(())
 }
@@ -22,13 +46,11 @@ fn spaces(out: &impl Print, n: usize) -> io::Result<()> {
 fn digits(n: u64) -> usize
     ensures { (1 ≤ result) × (result ≤ 20) }
 {
-    let mut k: usize = 1;
     let mut rest = n / 10;
-    while k < 20 {
+    for k in 1..20 {
         if rest == 0 {
             return k;
         }
-        k += 1;
         rest /= 10;
     }
     20
@@ -64,32 +86,21 @@ fn change(out: &impl Print, yesterday: u64, today: u64) -> io::Result<()> {
     signed(out, b"-", yesterday - today)
 }
 
-// Of one book; the words come behind it.
-fn one(out: &impl Print, n: u64) -> io::Result<()> {
-    number(out, n)?;
-    write::text(out, b"  ")
-}
-
-// Of two.
-fn two(out: &impl Print, yesterday: u64, today: u64) -> io::Result<()> {
-    number(out, yesterday)?;
-    number(out, today)?;
-    change(out, yesterday, today)?;
+// The numbers of a line, of two with what changed; the words come behind them.
+fn numbers(out: &impl Print, n: Days<u64>) -> io::Result<()> {
+    match n {
+        Days::One(n) => number(out, n)?,
+        Days::Two(yesterday, today) => {
+            number(out, yesterday)?;
+            number(out, today)?;
+            change(out, yesterday, today)?;
+        }
+    }
     write::text(out, b"  ")
 }
 
 pub fn heading(out: &impl Print) -> io::Result<()> {
     write::line(out, b"   yesterday       today      change")
-}
-
-pub fn count(out: &impl Print, n: u64, words: &[u8]) -> io::Result<()> {
-    one(out, n)?;
-    write::line(out, words)
-}
-
-pub fn both(out: &impl Print, yesterday: u64, today: u64, words: &[u8]) -> io::Result<()> {
-    two(out, yesterday, today)?;
-    write::line(out, words)
 }
 
 fn blocks_of(out: &impl Print, size: &[u8]) -> io::Result<()> {
@@ -112,24 +123,18 @@ fn left_out(out: &impl Print, day: &[u8], full: bool, size: &[u8]) -> io::Result
     Ok(())
 }
 
-pub fn size_of_one(out: &impl Print, size: &[u8], o: One) -> io::Result<()> {
-    let t = o.totals;
-    one(out, t.accepted as u64)?;
-    blocks_of(out, size)?;
-    one(out, t.past)?;
-    past_of(out, size)?;
-    left_out(out, b"", o.full, size)
-}
-
-pub fn size_of_both(out: &impl Print, size: &[u8], yesterday: One, today: One) -> io::Result<()> {
-    let y = yesterday.totals;
-    let t = today.totals;
-    two(out, y.accepted as u64, t.accepted as u64)?;
-    blocks_of(out, size)?;
-    two(out, y.past, t.past)?;
-    past_of(out, size)?;
-    left_out(out, b"yesterday: ", yesterday.full, size)?;
-    left_out(out, b"today: ", today.full, size)
+fn size(out: &impl Print, name: &[u8], o: Days<One>) -> io::Result<()> {
+    numbers(out, o.map(|o| u64::from(o.totals.accepted)))?;
+    blocks_of(out, name)?;
+    numbers(out, o.map(|o| o.totals.past))?;
+    past_of(out, name)?;
+    match o {
+        Days::One(o) => left_out(out, b"", o.full, name),
+        Days::Two(yesterday, today) => {
+            left_out(out, b"yesterday: ", yesterday.full, name)?;
+            left_out(out, b"today: ", today.full, name)
+        }
+    }
 }
 
 fn refused(out: &impl Print, n: u32) -> io::Result<()> {
@@ -140,43 +145,32 @@ fn refused(out: &impl Print, n: u32) -> io::Result<()> {
     write::end_line(out)
 }
 
+// Whether a number was given on a day.
+fn given(times: Days<u32>) -> bool {
+    match times {
+        Days::One(n) => n != 0,
+        Days::Two(yesterday, today) => (yesterday != 0) | (today != 0),
+    }
+}
+
 // Each number that was given; a tally stops at 65,535.
-pub fn refusals_of_one(out: &impl Print, tallies: &[u32; 24], t: Totals) -> io::Result<()> {
-    let mut n: u32 = 1;
-    while n < 25 {
-        let k = tally_of(tallies, t, n);
-        if k.count != 0 {
-            one(out, k.count as u64)?;
+fn refusals(out: &impl Print, days: Days<Counted>) -> io::Result<()> {
+    for n in 1..25 {
+        let times = days.map(|c| tally_of(c.tallies, c.sizes.of4.totals, n).count);
+        if given(times) {
+            numbers(out, times.map(|k| u64::from(k)))?;
             refused(out, n)?;
         }
-        n += 1;
     }
     Ok(())
 }
 
-fn refused_both(out: &impl Print, yesterday: u32, today: u32, n: u32) -> io::Result<()> {
-    if yesterday == 0 {
-        if today == 0 {
-            return Ok(());
-        }
-    }
-    two(out, yesterday as u64, today as u64)?;
-    refused(out, n)
-}
-
-pub fn refusals_of_both(
-    out: &impl Print,
-    yesterday: &[u32; 24],
-    today: &[u32; 24],
-    y: Totals,
-    t: Totals,
-) -> io::Result<()> {
-    let mut n: u32 = 1;
-    while n < 25 {
-        let a = tally_of(yesterday, y, n);
-        let b = tally_of(today, t, n);
-        refused_both(out, a.count, b.count, n)?;
-        n += 1;
-    }
-    Ok(())
+pub fn of(out: &impl Print, days: Days<Counted>) -> io::Result<()> {
+    numbers(out, days.map(|c| c.lines))?;
+    write::line(out, b"lines")?;
+    size(out, b"4x4", days.map(|c| c.sizes.of4))?;
+    size(out, b"8x8", days.map(|c| c.sizes.of8))?;
+    size(out, b"16x16", days.map(|c| c.sizes.of16))?;
+    size(out, b"32x32", days.map(|c| c.sizes.of32))?;
+    refusals(out, days)
 }

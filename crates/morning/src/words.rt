@@ -2,6 +2,7 @@
 use std::io;
 use text::write;
 
+// By number, as document 01 and the book give refusals; `show` has some of the words too, and no crate that both may know (crates.txt) has refusals.
 pub fn reason(out: &impl Print, n: u32) -> io::Result<()> {
     match n {
         1 => write::text(out, b"payload under 2 bytes"),

@@ -1,16 +1,21 @@
 -- What the code's answers mean.
-use Rattle.std.specs.Prelude.{ℕ, List, ℤ}
+use Rattle.std.specs.Prelude.{ℕ, List, ℤ, Ok, Err, Result}
 use Rattle.figures.specs.Figures.{Event, block, refusal}
 use Rattle.figures.specs.Agree.{held}
-use Rattle.morning_add.specs.declared.event.LineRead.{LineRead}
-use Rattle.morning_add.specs.declared.event.LineRead.TheVariants as ofRead
+use Rattle.morning_add.specs.declared.event.BlockRead.{BlockRead}
 use Rattle.morning_add.specs.declared.adding.One.{One}
 use Rattle.morning_add.specs.declared.adding.Sizes.{Sizes}
 use Rattle.morning_add.specs.Sums.{Sum, Four}
 
+abbrev pub LineRead : Type 0
+LineRead = Result BlockRead ℕ
+
+abbrev pub block_read : ℕ → ℕ → LineRead
+block_read log2 past = Ok (record { log2 = log2; past = past })
+
 unfoldable pub event_of : LineRead → List ℤ → Event
-event_of (ofRead.Block log2 past) levels = block log2 levels past
-event_of (ofRead.No n) levels = refusal n
+event_of (Ok b) levels = block b.log2 levels b.past
+event_of (Err n) levels = refusal n
 
 -- lent figures of a size
 abbrev pub sum_of : One → List ℕ → List ℕ → List ℕ → List ℕ → Sum

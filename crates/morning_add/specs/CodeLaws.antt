@@ -1,5 +1,5 @@
 -- Laws as the code meets them: a frame, a line, what it adds to one size and to four, a piece. Assumes nothing.
-use Rattle.std.specs.Prelude.{ℕ, ◌+◌, ◌-◌, ◌≤◌, ◌<◌, min, ◌≡◌, Bool, true, false, cond, ◌&&◌, ◌||◌, leb, length, take, get_or, set, ℤ}
+use Rattle.std.specs.Prelude.{ℕ, ◌+◌, ◌-◌, ◌≤◌, ◌<◌, min, ◌≡◌, Bool, true, false, cond, ◌&&◌, ◌||◌, leb, length, take, get_or, set, ℤ, Err}
 use Rattle.std.proofs.Common.{arith, sym, ◌∙◌, le-leb, eq-eqb, ne_eqb}
 use Rattle.std.proofs.Math.Path.{refl, ap}
 use mathlib.Core.List.{List, []}
@@ -10,10 +10,8 @@ use Rattle.book_lines.specs.Lines.{Line, line_of}
 use Rattle.book_lines.specs.Form.{form_refusal}
 use Rattle.book_lines.specs.Steps.{Reading, reading, step_state, step_out, fed_state, fed_out}
 use Rattle.book_lines.specs.CodeLaws.{fed_next, out_next, fed_all, out_all}
-use Rattle.frame.specs.declared.judge.Verdict.{Verdict}
-use Rattle.frame.specs.declared.judge.Verdict.TheVariants as ofVerdict
 use Rattle.frame.specs.Frame.{byte_of}
-use Rattle.frame.specs.Verdict.{verdict, levels_of}
+use Rattle.frame.specs.Verdict.{verdict, levels_of, Verdict, ok}
 use Rattle.book_answers.specs.CodeLaws.{judged_form, judged_frame}
 use Rattle.figures.specs.declared.add.Totals.{Totals}
 use Rattle.figures.specs.declared.add.Added.{Added}
@@ -21,31 +19,29 @@ use Rattle.counting.specs.Count.{gather}
 use Rattle.figures.specs.Figures.{Event, block, refusal, Figures, figures_of}
 use Rattle.figures.specs.Entries.{After, unless_refused, begin_refusal, begin, begun, add, add_block, add_refusal, number_refusal, with_refusal}
 use Rattle.figures.specs.Agree.{held, after_of}
-use Rattle.morning_add.specs.declared.event.LineRead.{LineRead}
-use Rattle.morning_add.specs.declared.event.LineRead.TheVariants as ofRead
 use Rattle.morning_add.specs.declared.adding.One.{One}
 use Rattle.morning_add.specs.declared.adding.Sizes.{Sizes}
 use Rattle.morning_add.specs.Sums.{event_by, framed, line_event, event_line, Sum, plus, Four, four_plus, added, no_sum, no_sums}
-use Rattle.morning_add.specs.Agree.{event_of, sum_of, four_of}
+use Rattle.morning_add.specs.Agree.{event_of, sum_of, four_of, LineRead, block_read}
 use Rattle.morning_add.specs.SumLaws.{added_append}
 
 -- ---- a frame
 module _ (bytes : List ℕ) (levels : List ℤ) (v : Verdict) (w : v ≡ verdict bytes) where
-  pub frame_ok : (log2 greatest past : ℕ) → log2 ≡ byte_of bytes 0 → levels ≡ levels_of bytes → v ≡ ofVerdict.Ok greatest past
-      → event_of (ofRead.Block log2 past) levels ≡ framed (verdict bytes) bytes
+  pub frame_ok : (log2 greatest past : ℕ) → log2 ≡ byte_of bytes 0 → levels ≡ levels_of bytes → v ≡ ok greatest past
+      → event_of (block_read log2 past) levels ≡ framed (verdict bytes) bytes
   unfolding event_of event_by
   frame_ok log2 greatest past q b o =
       ap (λ (x : ℕ). block x levels past) q
       ∙ ap (λ (x : List ℤ). block (byte_of bytes 0) x past) b
       ∙ ap (λ (x : Verdict). framed x bytes) (sym o ∙ w)
 
-  pub frame_no : (n : ℕ) → v ≡ ofVerdict.No n → event_of (ofRead.No n) levels ≡ framed (verdict bytes) bytes
+  pub frame_no : (n : ℕ) → v ≡ Err n → event_of (Err n) levels ≡ framed (verdict bytes) bytes
   unfolding event_of event_by
   frame_no n o = ap (λ (x : Verdict). framed x bytes) (sym o ∙ w)
 
 -- ---- a line
 module _ (l : List ℕ) (e : Bool) (n : ℕ) (f : n ≡ form_refusal (line_of l e)) (levels : List ℤ) where
-  pub line_form : (n ≡ 0 → ⊥) → event_of (ofRead.No n) levels ≡ line_event (line_of l e)
+  pub line_form : (n ≡ 0 → ⊥) → event_of (Err n) levels ≡ line_event (line_of l e)
   unfolding event_of line_event event_by
   line_form h = ap (λ (x : Verdict). framed x (octets_of l)) (judged_form l e n f h)
 
@@ -163,11 +159,11 @@ book_begun t4 t8 t16 t32 b4 s4 g4 b8 s8 g8 b16 s16 g16 b32 s32 g32 k4 k8 k16 k32
     (sum_begun 5 5 t32 b32 s32 g32 k32 k32 s z)
 
 -- what a variant of the code's says
-pub event_block : (log2 past : ℕ) (levels : List ℤ) (e : LineRead) → e ≡ ofRead.Block log2 past → block log2 levels past ≡ event_of e levels
+pub event_block : (log2 past : ℕ) (levels : List ℤ) (e : LineRead) → e ≡ block_read log2 past → block log2 levels past ≡ event_of e levels
 unfolding event_of
 event_block log2 past levels e q = ap (λ (x : LineRead). event_of x levels) (sym q)
 
-pub event_no : (n : ℕ) (levels : List ℤ) (e : LineRead) → e ≡ ofRead.No n → refusal n ≡ event_of e levels
+pub event_no : (n : ℕ) (levels : List ℤ) (e : LineRead) → e ≡ Err n → refusal n ≡ event_of e levels
 unfolding event_of
 event_no n levels e q = ap (λ (x : LineRead). event_of x levels) (sym q)
 

@@ -1,19 +1,17 @@
 -- The figures of a book (document 02, (x)): of each size those of all its lines, one after the other, by the book's own verdict and the figures' own adding.
-use Rattle.std.specs.Prelude.{ℕ, Bool, false, ◌||◌, List, [], ◌∷◌, eqb, ℤ}
+use Rattle.std.specs.Prelude.{ℕ, Bool, false, ◌||◌, List, [], ◌∷◌, eqb, ℤ, Ok, Err}
 use Rattle.text_fields.specs.Spelled.{octets_of}
 use Rattle.book_lines.specs.Lines.{Line, program}
-use Rattle.frame.specs.declared.judge.Verdict.{Verdict}
-use Rattle.frame.specs.declared.judge.Verdict.TheVariants as ofVerdict
 use Rattle.frame.specs.Frame.{byte_of}
-use Rattle.frame.specs.Verdict.{levels_of}
+use Rattle.frame.specs.Verdict.{levels_of, Verdict}
 use Rattle.book_answers.specs.Answers.{judged}
 use Rattle.figures.specs.Figures.{Event, block, refusal, Figures}
 use Rattle.figures.specs.Entries.{begun, add}
 
 -- ---- what a line adds: the block of the frame that it spells, or the number that it is refused by
 unfoldable pub event_by : Verdict → ℕ → List ℤ → Event
-event_by (ofVerdict.Ok greatest past) log2 levels = block log2 levels past
-event_by (ofVerdict.No n) log2 levels = refusal n
+event_by (Ok j) log2 levels = block log2 levels j.past
+event_by (Err n) log2 levels = refusal n
 
 abbrev pub framed : Verdict → List ℕ → Event
 framed v bytes = event_by v (byte_of bytes 0) (levels_of bytes)

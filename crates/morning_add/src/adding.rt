@@ -4,7 +4,7 @@ ghost use Rattle.figures.specs.Figures.{block};
 ghost use Rattle.morning_add.specs.Sums.{plus, four_plus};
 ghost use Rattle.morning_add.specs.Agree.{event_of, sum_of, four_of};
 
-use crate::event::LineRead;
+use crate::event::{BlockRead, LineRead};
 use figures::add::Totals;
 use figures_add::add::{add_block, add_refusal};
 
@@ -69,7 +69,7 @@ pub fn add_event(
     ensures { four_of result blocks4.new sums4.new greatests4.new blocks8.new sums8.new greatests8.new blocks16.new sums16.new greatests16.new blocks32.new sums32.new greatests32.new tallies.new ≡ four_plus (four_of z blocks4.old sums4.old greatests4.old blocks8.old sums8.old greatests8.old blocks16.old sums16.old greatests16.old blocks32.old sums32.old greatests32.old tallies.old) (event_of e levels.now) }
 {
     match e {
-        LineRead::Block(log2, past) => {
+        Ok(BlockRead { log2, past }) => {
             let a = add_to(blocks4, sums4, greatests4, z.of4, log2, levels, past);
             let b = add_to(blocks8, sums8, greatests8, z.of8, log2, levels, past);
             let c = add_to(blocks16, sums16, greatests16, z.of16, log2, levels, past);
@@ -81,7 +81,7 @@ pub fn add_event(
                 of32: d,
             }
         }
-        LineRead::No(n) => {
+        Err(n) => {
             add_refusal(tallies, z.of4.totals, n);
             z
         }

@@ -6,9 +6,8 @@ ghost use Rattle.morning_add.specs.Sums.{framed, line_event};
 ghost use Rattle.morning_add.specs.Agree.{event_of};
 
 use book_lines::form::refusal;
-use frame::judge::Verdict;
 use frame_judge::judge::read_frame;
-use morning_add::event::{LineRead, size_of};
+use morning_add::event::{BlockRead, LineRead, size_of};
 use text_octets::octets::hex_bytes;
 
 fn frame_read(bytes: &[u8], block: &mut [i32; 1024]) -> LineRead
@@ -16,11 +15,8 @@ fn frame_read(bytes: &[u8], block: &mut [i32; 1024]) -> LineRead
     ensures { event_of result block.new ≡ framed (verdict bytes.now) bytes.now }
 {
     let log2 = size_of(bytes);
-    let v = read_frame(bytes, block);
-    match v {
-        Verdict::Ok(_, past) => LineRead::Block(log2, past),
-        Verdict::No(n) => LineRead::No(n),
-    }
+    let v = read_frame(bytes, block)?;
+    Ok(BlockRead { log2, past: v.past })
 }
 
 pub fn read_line(line: &[u8], finished: bool, block: &mut [i32; 1024]) -> LineRead
@@ -28,7 +24,7 @@ pub fn read_line(line: &[u8], finished: bool, block: &mut [i32; 1024]) -> LineRe
 {
     let n = refusal(line, finished);
     if n != 0 {
-        return LineRead::No(n);
+        return Err(n);
     }
     let mut bytes = [0u8; 4234];
     hex_bytes(line, &mut bytes);

@@ -1,7 +1,7 @@
 // Heat maps: how often, of the blocks of a size, each place held a level. As text a character for each place, with the numbers of rows and columns: a space for
 // never, then .:-=+*#%@ up to always. As a PGM picture a grey from 0 to 255.
 // These functions promise nothing but to end: the steps are heat's, what stands at a place is figures'.
-ghost use Rattle.std.specs.Prelude.{◌+◌, ◌*◌, ◌<◌};
+ghost use Rattle.std.specs.Prelude.{◌+◌, ◌*◌, ◌≤◌, ◌<◌};
 
 use figures::add::Totals;
 use figures_read::out::at_place;
@@ -9,6 +9,33 @@ use grid_places::places::{place, side};
 use heat::{grey, mark, shade};
 use std::io;
 use text::write;
+
+// What was added up of the blocks of a size: of each place how often it held a level, the sums and the greatest magnitudes; and the totals.
+#[derive(Clone, Copy)]
+pub struct Blocks<'a> {
+    pub held: &'a [u32; 1024],
+    pub sums: &'a [u64; 1024],
+    pub greatests: &'a [u32; 1024],
+    pub totals: Totals,
+}
+
+impl<'a> Blocks<'a> {
+    // How many blocks held a level at a place.
+    fn count(self, place: usize) -> u32 {
+        at_place(self.held, self.sums, self.greatests, self.totals, place).blocks
+    }
+
+    // A place's shade.
+    fn shade(self, place: usize) -> u64 {
+        shade(self.count(place), self.totals.accepted)
+    }
+
+    fn side(self) -> usize
+        ensures { result ≤ 32 }
+    {
+        side(self.totals.log2)
+    }
+}
 
 fn character(out: &impl Print, b: u8) -> io::Result<()> {
     let alone = [b];
@@ -25,30 +52,18 @@ fn row_number(out: &impl Print, row: usize) -> io::Result<()> {
 
 // The last digits of the columns' numbers.
 fn columns(out: &impl Print, n: usize) -> io::Result<()> {
-    let mut i: usize = 0;
-    while i < n {
+    for i in 0..n {
         write::count(out, i % 10)?;
-        i += 1;
     }
     Ok(())
 }
 
-fn row_of(
-    out: &impl Print,
-    blocks: &[u32; 1024],
-    sums: &[u64; 1024],
-    greatests: &[u32; 1024],
-    t: Totals,
-    row: usize,
-) -> io::Result<()>
+fn row_of(out: &impl Print, b: Blocks, row: usize) -> io::Result<()>
     requires { row < 32 }
 {
-    let n = side(t.log2);
-    let mut i: usize = 0;
-    while i < n {
-        let p = at_place(blocks, sums, greatests, t, place(t.log2, row, i));
-        character(out, mark(shade(p.blocks, t.accepted)))?;
-        i += 1;
+    let n = b.side();
+    for i in 0..n {
+        character(out, mark(b.shade(place(b.totals.log2, row, i))))?;
     }
     Ok(())
 }
@@ -63,28 +78,19 @@ fn title(out: &impl Print, size: &[u8]) -> io::Result<()> {
     )
 }
 
-pub fn of_one(
-    out: &impl Print,
-    size: &[u8],
-    blocks: &[u32; 1024],
-    sums: &[u64; 1024],
-    greatests: &[u32; 1024],
-    t: Totals,
-) -> io::Result<()> {
-    if t.accepted == 0 {
+pub fn of_one(out: &impl Print, size: &[u8], b: Blocks) -> io::Result<()> {
+    if b.totals.accepted == 0 {
         return Ok(());
     }
     title(out, size)?;
-    let n = side(t.log2);
+    let n = b.side();
     more_columns(out, n)?;
     write::end_line(out)?;
-    let mut row: usize = 0;
-    while row < n {
+    for row in 0..n {
         row_number(out, row)?;
         write::text(out, b" ")?;
-        row_of(out, blocks, sums, greatests, t, row)?;
+        row_of(out, b, row)?;
         write::line(out, b"|")?;
-        row += 1;
     }
     Ok(())
 }
@@ -103,71 +109,30 @@ fn sign(out: &impl Print, yesterday: u64, today: u64) -> io::Result<()> {
     write::text(out, b".")
 }
 
-fn change_of(
-    out: &impl Print,
-    blocks: &[u32; 1024],
-    sums: &[u64; 1024],
-    greatests: &[u32; 1024],
-    y: Totals,
-    blocks_t: &[u32; 1024],
-    sums_t: &[u64; 1024],
-    greatests_t: &[u32; 1024],
-    t: Totals,
-    row: usize,
-) -> io::Result<()>
+fn change_of(out: &impl Print, yesterday: Blocks, today: Blocks, row: usize) -> io::Result<()>
     requires { row < 32 }
 {
-    let n = side(t.log2);
-    let mut i: usize = 0;
-    while i < n {
-        let p = place(t.log2, row, i);
-        let a = at_place(blocks, sums, greatests, y, p);
-        let b = at_place(blocks_t, sums_t, greatests_t, t, p);
-        sign(
-            out,
-            shade(a.blocks, y.accepted),
-            shade(b.blocks, t.accepted),
-        )?;
-        i += 1;
+    let n = today.side();
+    for i in 0..n {
+        let p = place(today.totals.log2, row, i);
+        sign(out, yesterday.shade(p), today.shade(p))?;
     }
     Ok(())
 }
 
 // A row of both days, and what changed beside it where that fits into 80 columns.
-fn both_rows(
-    out: &impl Print,
-    blocks: &[u32; 1024],
-    sums: &[u64; 1024],
-    greatests: &[u32; 1024],
-    y: Totals,
-    blocks_t: &[u32; 1024],
-    sums_t: &[u64; 1024],
-    greatests_t: &[u32; 1024],
-    t: Totals,
-    row: usize,
-) -> io::Result<()>
+fn both_rows(out: &impl Print, yesterday: Blocks, today: Blocks, row: usize) -> io::Result<()>
     requires { row < 32 }
 {
     row_number(out, row)?;
     write::text(out, b" ")?;
-    row_of(out, blocks, sums, greatests, y, row)?;
+    row_of(out, yesterday, row)?;
     write::text(out, b"|  ")?;
-    row_of(out, blocks_t, sums_t, greatests_t, t, row)?;
+    row_of(out, today, row)?;
     write::text(out, b"|")?;
-    if side(t.log2) < 32 {
+    if today.side() < 32 {
         write::text(out, b"  ")?;
-        change_of(
-            out,
-            blocks,
-            sums,
-            greatests,
-            y,
-            blocks_t,
-            sums_t,
-            greatests_t,
-            t,
-            row,
-        )?;
+        change_of(out, yesterday, today, row)?;
         write::text(out, b"|")?;
     }
     write::end_line(out)
@@ -180,147 +145,71 @@ fn more_columns(out: &impl Print, n: usize) -> io::Result<()> {
 }
 
 // What changed, below both days.
-fn changes_below(
-    out: &impl Print,
-    blocks: &[u32; 1024],
-    sums: &[u64; 1024],
-    greatests: &[u32; 1024],
-    y: Totals,
-    blocks_t: &[u32; 1024],
-    sums_t: &[u64; 1024],
-    greatests_t: &[u32; 1024],
-    t: Totals,
-) -> io::Result<()> {
-    let n = side(t.log2);
+fn changes_below(out: &impl Print, yesterday: Blocks, today: Blocks) -> io::Result<()> {
+    let n = today.side();
     more_columns(out, n)?;
     write::end_line(out)?;
-    let mut row: usize = 0;
-    while row < n {
+    for row in 0..n {
         row_number(out, row)?;
         write::text(out, b" ")?;
-        change_of(
-            out,
-            blocks,
-            sums,
-            greatests,
-            y,
-            blocks_t,
-            sums_t,
-            greatests_t,
-            t,
-            row,
-        )?;
+        change_of(out, yesterday, today, row)?;
         write::line(out, b"|")?;
-        row += 1;
     }
     Ok(())
 }
 
 // Yesterday's, today's and what changed.
-pub fn of_both(
-    out: &impl Print,
-    size: &[u8],
-    blocks: &[u32; 1024],
-    sums: &[u64; 1024],
-    greatests: &[u32; 1024],
-    y: Totals,
-    blocks_t: &[u32; 1024],
-    sums_t: &[u64; 1024],
-    greatests_t: &[u32; 1024],
-    t: Totals,
-) -> io::Result<()> {
-    if y.accepted == 0 {
-        if t.accepted == 0 {
-            return Ok(());
-        }
+pub fn of_both(out: &impl Print, size: &[u8], yesterday: Blocks, today: Blocks) -> io::Result<()> {
+    if (yesterday.totals.accepted == 0) & (today.totals.accepted == 0) {
+        return Ok(());
     }
     title(out, size)?;
     write::line(
         out,
         b"yesterday, today, and + where more often, - where less",
     )?;
-    let n = side(t.log2);
+    let n = today.side();
     more_columns(out, n)?;
     more_columns(out, n)?;
     if n < 32 {
         more_columns(out, n)?;
     }
     write::end_line(out)?;
-    let mut row: usize = 0;
-    while row < n {
-        both_rows(
-            out,
-            blocks,
-            sums,
-            greatests,
-            y,
-            blocks_t,
-            sums_t,
-            greatests_t,
-            t,
-            row,
-        )?;
-        row += 1;
+    for row in 0..n {
+        both_rows(out, yesterday, today, row)?;
     }
     if n == 32 {
-        changes_below(
-            out,
-            blocks,
-            sums,
-            greatests,
-            y,
-            blocks_t,
-            sums_t,
-            greatests_t,
-            t,
-        )?;
+        changes_below(out, yesterday, today)?;
     }
     Ok(())
 }
 
-fn greys_of(
-    out: &impl Print,
-    blocks: &[u32; 1024],
-    sums: &[u64; 1024],
-    greatests: &[u32; 1024],
-    t: Totals,
-    row: usize,
-) -> io::Result<()>
+fn greys_of(out: &impl Print, b: Blocks, row: usize) -> io::Result<()>
     requires { row < 32 }
 {
-    let n = side(t.log2);
-    let mut i: usize = 0;
-    while i < n {
+    let n = b.side();
+    for i in 0..n {
         if 0 < i {
             write::text(out, b" ")?;
         }
-        let p = at_place(blocks, sums, greatests, t, place(t.log2, row, i));
-        write::decimal(out, grey(p.blocks, t.accepted))?;
-        i += 1;
+        let p = place(b.totals.log2, row, i);
+        write::decimal(out, grey(b.count(p), b.totals.accepted))?;
     }
     Ok(())
 }
 
 // A PGM picture, as text: P2, its sides, its white, and a line of greys for each row.
-pub fn picture(
-    out: &impl Print,
-    blocks: &[u32; 1024],
-    sums: &[u64; 1024],
-    greatests: &[u32; 1024],
-    t: Totals,
-) -> io::Result<()> {
-    let n = side(t.log2);
+pub fn picture(out: &impl Print, b: Blocks) -> io::Result<()> {
+    let n = b.side();
     write::line(out, b"P2")?;
     write::count(out, n)?;
     write::text(out, b" ")?;
     write::count(out, n)?;
     write::end_line(out)?;
     write::line(out, b"255")?;
-    let mut row: usize = 0;
-    while row < n {
-        greys_of(out, blocks, sums, greatests, t, row)?;
+    for row in 0..n {
+        greys_of(out, b, row)?;
         write::end_line(out)?;
-        row += 1;
     }
     Ok(())
 }

@@ -140,10 +140,9 @@ pub fn feed(
     ensures { (reading line.new result.line ≡ fed_state (reading line.old s.line) piece.now) × (four_of result.sizes blocks4.new sums4.new greatests4.new blocks8.new sums8.new greatests8.new blocks16.new sums16.new greatests16.new blocks32.new sums32.new greatests32.new tallies.new ≡ added (four_of s.sizes blocks4.old sums4.old greatests4.old blocks8.old sums8.old greatests8.old blocks16.old sums16.old greatests16.old blocks32.old sums32.old greatests32.old tallies.old) (fed_out event_line (reading line.old s.line) piece.now)) × (result.line.held ≤ 8469) × (s.line.number ≤ result.line.number) × (result.line.number ≤ s.line.number + length piece.now) }
 {
     let mut t = s;
-    let mut i: usize = 0;
-    while i < piece.len() {
+    for &b in piece {
         t = step(
-            piece[i],
+            b,
             line,
             t,
             blocks4,
@@ -160,7 +159,6 @@ pub fn feed(
             greatests32,
             tallies,
         );
-        i += 1;
     }
     t
 }

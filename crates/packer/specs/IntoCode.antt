@@ -1,5 +1,5 @@
 -- The code that packs a list into a room: each way out is what pack_into says. Assumes nothing.
-use Rattle.std.specs.Prelude.{ℕ, ◌+◌, ◌*◌, ◌/◌, ◌≤◌, ◌<◌, ◌≡◌, refl, Bool, true, false, List, ◌++◌, length, drop, leb}
+use Rattle.std.specs.Prelude.{ℕ, ◌+◌, ◌*◌, ◌/◌, ◌≤◌, ◌<◌, ◌≡◌, refl, Bool, true, false, List, ◌++◌, length, drop, leb, Result, Ok, Err}
 use Rattle.std.proofs.Common.{sym, ap, ap₂, ◌∙◌, arith, leb-true}
 use Rattle.cabac.specs.Numbers.{accepted, refused}
 use Rattle.packing.specs.Pack.{begun, writing, entries_of, packed_from}
@@ -7,13 +7,11 @@ use Rattle.packing.specs.PayloadLaws.{payload_length, begun_wide}
 use Rattle.packing.proofs.PacksLaws.{packed_n, entries_length}
 use Rattle.packing.specs.Entries.{BinsPacked, payload_from, pack_into}
 use Rattle.packing.proofs.EntriesLaws.{into_long, into_fits}
-use Rattle.packer.specs.declared.list.Packing.{Packing}
-use Rattle.packer.specs.declared.list.Packing.TheVariants as packing
 use Rattle.packer.specs.WalkLaws.{Laid}
 
-abbrev pub packing_says : Packing → List ℕ → BinsPacked
-packing_says (packing.Payload n) room = record { answer = accepted n; room = room }
-packing_says (packing.Refused n) room = record { answer = refused n; room = room }
+abbrev pub packing_says : Result ℕ ℕ → List ℕ → BinsPacked
+packing_says (Ok n) room = record { answer = accepted n; room = room }
+packing_says (Err n) room = record { answer = refused n; room = room }
 
 said : (m n : ℕ) (a b : List ℕ) → m ≡ n → a ≡ b → ◌≡◌ {A = BinsPacked} (record { answer = accepted m; room = a }) (record { answer = accepted n; room = b })
 said m n a b p q = cc
@@ -25,7 +23,7 @@ payload_few contexts bins =
 
 -- where so many bytes are lent it is written at once
 pub at_once : (contexts bins room : List ℕ) (b : Bool) → b ≡ leb ((length bins / 2 * 7 + 16) / 8) (length room) → b ≡ true → (m : ℕ) (room₂ cs₂ : List ℕ)
-    → Laid room contexts true bins m room₂ cs₂ → packing_says (packing.Payload m) room₂ ≡ pack_into contexts bins room
+    → Laid room contexts true bins m room₂ cs₂ → packing_says (Ok m) room₂ ≡ pack_into contexts bins room
 at_once contexts bins room b q h m room₂ cs₂ d =
     let P = payload_from contexts bins in
     let fits : length P ≤ length room = omega (arith, payload_few contexts bins, leb-true ((length bins / 2 * 7 + 16) / 8) (length room) (sym q ∙ h)) in
@@ -34,12 +32,12 @@ at_once contexts bins room b q h m room₂ cs₂ d =
 
 -- counted: n is the length
 module _ (contexts bins room : List ℕ) (n : ℕ) (room₁ cs₁ : List ℕ) (c : Laid room contexts false bins n room₁ cs₁) where
-  pub no_room : length room₁ < n → packing_says (packing.Refused 12) room₁ ≡ pack_into contexts bins room
+  pub no_room : length room₁ < n → packing_says (Err 12) room₁ ≡ pack_into contexts bins room
   no_room h =
-      ap (λ z. packing_says (packing.Refused 12) z) (c.dry refl) ∙ sym (into_long contexts bins room (omega (arith, c.told, c.long)))
+      ap (λ z. packing_says (Err 12) z) (c.dry refl) ∙ sym (into_long contexts bins room (omega (arith, c.told, c.long)))
 
   pub all_written : n ≤ length room₁ → (again : List ℕ) → again ≡ contexts → (m : ℕ) (room₂ cs₂ : List ℕ) → Laid room₁ again true bins m room₂ cs₂
-      → packing_says (packing.Payload m) room₂ ≡ pack_into contexts bins room
+      → packing_says (Ok m) room₂ ≡ pack_into contexts bins room
   all_written h again q m room₂ cs₂ d =
       let P = payload_from contexts bins in
       let e : room₁ ≡ room = c.dry refl in

@@ -1,11 +1,11 @@
 -- The code's state beside the definition's interval: the number of the bytes and the register make its low. Every step keeps it. Assumes nothing.
-use Rattle.std.specs.Prelude.{ℕ, zero, suc, ◌+◌, ◌-◌, ◌*◌, ◌/◌, ◌%◌, ◌^◌, ◌≤◌, ◌<◌, ◌≡◌, refl, Bool, true, false, cond, List, [], ◌∷◌, ◌++◌, length, drop, ltb}
-use Rattle.std.proofs.Common.{sym, ap, ap₂, subst, ◌∙◌, arith, pow-add, pow_mono, mod-lt, lt-ltb, le-ltb, ltb-true, ltb-false}
+use Rattle.std.specs.Prelude.{ℕ, ◌+◌, ◌-◌, ◌*◌, ◌/◌, ◌%◌, ◌^◌, ◌≤◌, ◌<◌, ◌≡◌, refl, Bool, true, false, cond, List, [], ◌∷◌, ◌++◌, length, drop, ltb}
+use Rattle.std.proofs.Common.{sym, ap, ap₂, subst, ◌∙◌, arith, pow-add, pow_mono, mod-lt, ltb-true, ltb-false}
 use Rattle.std.proofs.Math.Pow.{split}
 use Rattle.std.specs.Int.Count.{count_leading_zeros}
 use Rattle.bins.specs.Engine.{bit_no}
 use Rattle.tables.specs.Tables.{lps_of}
-use Rattle.packing.specs.Pack.{Enc, begun, widened, encoded, bypass_enc, align_enc, Entry, of_context, of_bypass, of_align, Writing, writing, favoured, packed_bin, packed_entry, packed, octets, filled, flushed, payload_of}
+use Rattle.packing.specs.Pack.{Enc, begun, widened, encoded, bypass_enc, align_enc, Entry, of_context, of_bypass, of_align, Writing, writing, packed_bin, packed_entry, packed, octets, filled, flushed, payload_of}
 use Rattle.packing.specs.FollowLaws.{Wide}
 use Rattle.packing.proofs.TreeLaws.{entry_wide}
 use Rattle.packing.proofs.PacksLaws.{packed_n}

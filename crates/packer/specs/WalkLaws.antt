@@ -1,7 +1,7 @@
 -- A list written entry by entry: what the code's state is behind each prefix of the list, and what stands in the room at the end. Assumes nothing.
-use Rattle.std.specs.Prelude.{ℕ, zero, suc, ◌+◌, ◌-◌, ◌*◌, ◌/◌, ◌%◌, ◌^◌, ◌≤◌, ◌<◌, ◌≡◌, Bool, true, false, cond, List, [], ◌∷◌, ◌++◌, length, get_or, set, take, drop, ltb, eqb}
+use Rattle.std.specs.Prelude.{ℕ, zero, suc, ◌+◌, ◌*◌, ◌/◌, ◌%◌, ◌≤◌, ◌<◌, ◌≡◌, Bool, true, false, List, [], ◌∷◌, ◌++◌, length, get_or, set, take, drop, eqb}
 use Rattle.std.proofs.Math.Path.{refl}
-use Rattle.std.proofs.Common.{sym, ap, ap₂, subst, ◌∙◌, arith, length-take, length-set, take-suc, take_all}
+use Rattle.std.proofs.Common.{sym, ap, ap₂, subst, ◌∙◌, arith, add-one, length-take, length-set, take-suc, take_all}
 use Rattle.std.proofs.Math.ListN.{get_or-eq_default}
 use Rattle.std.proofs.Math.Seq.{set_out}
 use borrow.Author.Tests.{lt-ltb, le-ltb, ne_eqb}
@@ -109,80 +109,74 @@ entry_at (x ∷ y ∷ l) (suc k) h =
     let b : 2 * suc k + 1 ≡ suc (suc (2 * k + 1)) = omega arith in
     entry_at l k (omega arith) ∙ sym (ap₂ (λ i j. kind_of (get_or (x ∷ y ∷ l) i 0 + 256 * get_or (x ∷ y ∷ l) j 0)) a b)
 
--- ---- the loop: the entries of the first i bytes are written, from a lent room o and contexts cs
+-- ---- the loop: so many entries are written, from a lent room o and contexts cs
 abbrev written : List ℕ → List ℕ → ℕ → Writing
 written cs bins j = packed (take j (entries_of bins)) (writing begun cs)
 
-pub record Written (o cs : List ℕ) (wr : Bool) (bins : List ℕ) (i : ℕ) (room : List ℕ) (c : Coder) (contexts : List ℕ) : Type 0 where
-  pub done : ℕ
-  pub twice : i ≡ 2 * done
-  pub few : i ≤ length bins
+pub record Written (o cs : List ℕ) (wr : Bool) (bins : List ℕ) (done : ℕ) (room : List ℕ) (c : Coder) (contexts : List ℕ) : Type 0 where
+  pub few : 2 * done ≤ length bins
   pub stands : Stands o wr room c (written cs bins done).enc
   pub bits : c.bits ≤ 16
   pub same : contexts ≡ (written cs bins done).contexts
 
 module _ (o cs : List ℕ) (wr : Bool) (bins : List ℕ) (p : Packed cs) (short : length bins ≤ 2 * entries_most + 1) where
   pub written_begin : Written o cs wr bins 0 o coder_begun cs
-  written_begin = record { done = 0; twice = refl; few = omega arith; stands = unfold packed in stands_begin o wr; bits = omega arith; same = unfold packed in refl }
+  written_begin = record { few = omega arith; stands = unfold packed in stands_begin o wr; bits = omega arith; same = unfold packed in refl }
 
   prefix_short : (j : ℕ) → 2 * j ≤ length bins → (written cs bins j).enc.n ≤ 134217728
   prefix_short j h =
       let l : length (take j (entries_of bins)) ≤ entries_most = simp length-take (omega arith) in
       omega (arith, packed_n (take j (entries_of bins)) (writing begun cs) begun_wide)
 
-  pub written_steady : (i : ℕ) (room : List ℕ) (c : Coder) (contexts : List ℕ) → Written o cs wr bins i room c contexts → Steady c × Packed contexts
-  written_steady i room c contexts h = (
+  pub written_steady : (done : ℕ) (room : List ℕ) (c : Coder) (contexts : List ℕ) → Written o cs wr bins done room c contexts → Steady c × Packed contexts
+  written_steady done room c contexts h = (
     record {
       wide = h.stands.wide;
       nine = h.stands.nine;
       few = h.bits;
-      short = omega (arith, prefix_short h.done (omega (arith, h.twice, h.few)), h.stands.above.place);
+      short = omega (arith, prefix_short done h.few, h.stands.above.place);
     },
-    subst Packed (sym h.same) (all_packed (take h.done (entries_of bins)) (writing begun cs) p),
+    subst Packed (sym h.same) (all_packed (take done (entries_of bins)) (writing begun cs) p),
   )
 
   -- one entry more: d is the coder behind it, before a byte goes to the room
-  module _ (i : ℕ) (room : List ℕ) (c d : Coder) (contexts contexts' : List ℕ) (x : ℕ) (h : Written o cs wr bins i room c contexts) (k : i + 1 < length bins)
+  module _ (done : ℕ) (room : List ℕ) (c d : Coder) (contexts contexts' : List ℕ) (x : ℕ) (h : Written o cs wr bins done room c contexts) (k : 2 * done + 1 < length bins)
       (q : writing (register_of d) contexts' ≡ packed_entry (kind_of x) (writing (register_of c) contexts)) (at : d.at ≡ c.at) where
     pub written_grown : Grown d
     written_grown =
-        let s = (written cs bins h.done).enc in
+        let s = (written cs bins done).enc in
         record {
           wide = stands_wide o wr room c d (kind_of x) s contexts contexts' h.stands q at;
           nine = (stands_more o wr room c d (kind_of x) s contexts contexts' h.stands q at).nine;
           few = omega (arith, h.bits, stands_few o wr room c d (kind_of x) s contexts contexts' h.stands q at);
-          short = omega (arith, (written_steady i room c contexts h).0.short);
+          short = omega (arith, (written_steady done room c contexts h).0.short);
         }
 
-    pub written_more : (room' : List ℕ) (r : Coder) → x ≡ get_or bins i 0 + 256 * get_or bins (i + 1) 0 → PutOut wr room d room' r → Written o cs wr bins (i + 2) room' r contexts'
+    pub written_more : (room' : List ℕ) (r : Coder) → x ≡ get_or bins (2 * done) 0 + 256 * get_or bins (2 * done + 1) 0 → PutOut wr room d room' r → Written o cs wr bins (done + 1) room' r contexts'
     written_more room' r e out =
         let es = entries_of bins in
-        let j = h.done in
-        let w = written cs bins j in
-        let there : get_or es j of_align ≡ kind_of x =
-        entry_at bins j (omega (arith, h.twice)) ∙ ap (λ n. kind_of (get_or bins n 0 + 256 * get_or bins (n + 1) 0)) (sym h.twice) ∙ ap kind_of (sym e) in
-        let t : take (suc j) es ≡ take j es ++ (kind_of x ∷ []) =
-        take-suc es j of_align (omega (arith, entries_length bins, h.twice)) ∙ ap (λ y. take j es ++ (y ∷ [])) there in
-        let u : packed_entry (kind_of x) w ≡ written cs bins (suc j) = sym (ap (λ l. packed l (writing begun cs)) t ∙ packed_more (take j es) (kind_of x) (writing begun cs)) in
+        let w = written cs bins done in
+        let there : get_or es done of_align ≡ kind_of x = entry_at bins done k ∙ ap kind_of (sym e) in
+        let t : take (done + 1) es ≡ take done es ++ (kind_of x ∷ []) =
+        ap (λ n. take n es) (add-one done) ∙ take-suc es done of_align (omega (arith, entries_length bins)) ∙ ap (λ y. take done es ++ (y ∷ [])) there in
+        let u : packed_entry (kind_of x) w ≡ written cs bins (done + 1) = sym (ap (λ l. packed l (writing begun cs)) t ∙ packed_more (take done es) (kind_of x) (writing begun cs)) in
         let v : writing w.enc contexts ≡ w = ap (writing w.enc) h.same in
-        let z : packed_entry (kind_of x) (writing w.enc contexts) ≡ written cs bins (suc j) = ap (packed_entry (kind_of x)) v ∙ u in
+        let z : packed_entry (kind_of x) (writing w.enc contexts) ≡ written cs bins (done + 1) = ap (packed_entry (kind_of x)) v ∙ u in
         let m = stands_more o wr room c d (kind_of x) w.enc contexts contexts' h.stands q at in
         let n = stands_out o wr room room' d r (packed_entry (kind_of x) (writing w.enc contexts)).enc m written_grown out in
         record {
-          done = suc j;
-          twice = omega (arith, h.twice);
           few = omega arith;
           stands = subst (λ (y : Writing). Stands o wr room' r y.enc) z n.0;
           bits = n.1;
           same = stands_contexts o wr room c d (kind_of x) w.enc contexts contexts' h.stands q at ∙ ap (λ (y : Writing). y.contexts) z;
         }
 
-  pub laid : (i : ℕ) (room : List ℕ) (c : Coder) (contexts room' : List ℕ) (r : ℕ) → Written o cs wr bins i room c contexts → length bins ≤ i + 1
+  pub laid : (done : ℕ) (room : List ℕ) (c : Coder) (contexts room' : List ℕ) (r : ℕ) → Written o cs wr bins done room c contexts → length bins ≤ 2 * done + 1
       → r ≡ c.at + 2 → room' ≡ last_of wr c room → Laid o cs wr bins r room' contexts
-  laid i room c contexts room' r h k e q =
+  laid done room c contexts room' r h k e q =
       let s = (packed_from cs bins).enc in
-      let all : written cs bins h.done ≡ packed_from cs bins = ap (λ l. packed l (writing begun cs)) (take_all h.done (entries_of bins) (omega (arith, entries_length bins, h.twice))) in
-      let d : Closed o wr s r room' = subst (λ (w : Writing). Closed o wr w.enc r room') all (stands_flush o wr room room' c _ r h.stands (written_steady i room c contexts h).0 e q) in
+      let all : written cs bins done ≡ packed_from cs bins = ap (λ l. packed l (writing begun cs)) (take_all done (entries_of bins) (omega (arith, entries_length bins))) in
+      let d : Closed o wr s r room' = subst (λ (w : Writing). Closed o wr w.enc r room') all (stands_flush o wr room room' c _ r h.stands (written_steady done room c contexts h).0 e q) in
       let moved : contexts ≡ (packed_from cs bins).contexts = h.same ∙ ap (λ (w : Writing). w.contexts) all in
       record {
         told = d.told ∙ sym (payload_length s);

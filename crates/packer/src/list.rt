@@ -16,20 +16,14 @@ use packer_steps::coder::{Coder, align, bypass, decision};
 use tables::decision_table;
 
 // A payload by its length, or the number of the refusal.
-#[derive(Clone, Copy)]
-pub enum Packing {
-    Payload(usize),
-    Refused(u32),
-}
+pub type Packing = Result<usize, u32>;
 
 // An entry's two bytes as a number, the low one first.
 fn entry_number(list: &[u8], i: usize) -> u32
     requires { i + 1 < length list.now }
     ensures { result ≡ get_or list.now i 0 + 256 * get_or list.now (i + 1) 0 }
 {
-    let low = list[i] as u32;
-    let high = list[i + 1] as u32;
-    low + 256 * high
+    u32::from(u16::from_le_bytes([list[i], list[i + 1]]))
 }
 
 // One entry in the register. A context that is not lent is 0 and stays so.
@@ -69,12 +63,10 @@ pub fn put_list(
         bits: 9,
         at: 0,
     };
-    let mut i: usize = 0;
-    while i + 1 < list.len() {
-        let entry = entry_number(list, i);
+    for k in 0..list.len() / 2 {
+        let entry = entry_number(list, 2 * k);
         let d = put_entry(table, contexts, c, entry);
         c = put_out(room, d, writing);
-        i += 2;
     }
     flush(room, c, writing)
 }
@@ -92,10 +84,10 @@ pub fn pack_into(
 {
     let n = put_list(table, contexts, list, room, false);
     if room.len() < n {
-        return Packing::Refused(12);
+        return Err(12);
     }
     let written = put_list(table, again, list, room, true);
-    Packing::Payload(written)
+    Ok(written)
 }
 
 // Whether a payload fits for certain: it has nine bits, and at most seven for each entry.
@@ -119,7 +111,7 @@ pub fn pack_list(
 {
     if surely_fits(list.len(), room.len()) {
         let written = put_list(table, contexts, list, room, true);
-        return Packing::Payload(written);
+        return Ok(written);
     }
     pack_into(table, contexts, again, list, room)
 }

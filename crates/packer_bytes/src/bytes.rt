@@ -4,28 +4,18 @@ ghost use Rattle.packer_steps.specs.Register.{carried, inked, Steady, Grown, Put
 
 use packer_steps::coder::Coder;
 
-// A carry into the byte before place k: where it goes on, or 0 where it ends.
-fn carry_byte(room: &mut [u8], k: usize) -> usize
-    requires { (0 < k) × (k ≤ length room.old) }
-    ensures { (carried result room.new ≡ carried k room.old) × (result < k) }
-{
-    let byte = room[k - 1];
-    if byte < 255 {
-        room[k - 1] = byte + 1;
-        return 0;
-    }
-    room[k - 1] = 0;
-    k - 1
-}
-
 // One more in the number that the first n bytes make.
 pub fn carry(room: &mut [u8], n: usize)
     requires { n ≤ length room.old }
     ensures { room.new ≡ carried n room.old }
 {
-    let mut k = n;
-    while 0 < k {
-        k = carry_byte(room, k);
+    for k in (0..n).rev() {
+        let byte = room[k];
+        if byte < 255 {
+            room[k] = byte + 1;
+            return;
+        }
+        room[k] = 0;
     }
 }
 
@@ -57,9 +47,9 @@ pub fn put_out(room: &mut [u8], c: Coder, writing: bool) -> Coder
     put_byte(room, c.at, nine, writing);
     Coder {
         low: c.low - (nine << rest),
-        range: c.range,
         bits: rest,
         at: c.at + 1,
+        ..c
     }
 }
 

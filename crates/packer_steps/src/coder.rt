@@ -29,7 +29,7 @@ fn widen(c: Coder, low: u32, range: u32) -> Coder
         low: low << shift,
         range: range << shift,
         bits: c.bits + shift,
-        at: c.at,
+        ..c
     }
 }
 
@@ -58,9 +58,8 @@ pub fn bypass(c: Coder, bin: u32) -> Coder
 {
     Coder {
         low: c.low * 2 + bin * c.range,
-        range: c.range,
         bits: c.bits + 1,
-        at: c.at,
+        ..c
     }
 }
 
@@ -68,10 +67,5 @@ pub fn bypass(c: Coder, bin: u32) -> Coder
 pub fn align(c: Coder) -> Coder
     ensures { (register_of result ≡ align_enc (register_of c)) × (result.at ≡ c.at) }
 {
-    Coder {
-        low: c.low,
-        range: 256,
-        bits: c.bits,
-        at: c.at,
-    }
+    Coder { range: 256, ..c }
 }

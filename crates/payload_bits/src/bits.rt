@@ -70,14 +70,8 @@ pub fn cut(bytes: &[u8], at: BitPlace) -> BitPlace
     requires { length bytes.now ≤ 16777216 }
     ensures { result.0 ≡ min at.0 (ends bytes.now + past_most) }
 {
-    let p = at.0;
-    let end = end_of(bytes);
-    let most = end.0 + 65535;
-    if p < most {
-        BitPlace(p)
-    } else {
-        BitPlace(most)
-    }
+    let most = end_of(bytes).0 + 65535;
+    BitPlace(at.0.min(most))
 }
 
 // How many of the c bits lie past the end.

@@ -1,6 +1,5 @@
 // One entry into a lent room, or two more to the count of bytes.
 ghost use Rattle.std.specs.Prelude.{◌≡◌, ◌≤◌, ◌<◌};
-ghost use Rattle.bins.specs.Engine.{bit_no};
 ghost use Rattle.bins.specs.Tags.{tag, bypass_no, align_tag};
 ghost use Rattle.pen.specs.Sheet.{sheet, moved, inked, entered};
 
@@ -20,8 +19,7 @@ fn on(pen: Pen) -> Pen
 {
     Pen {
         at: pen.at + 1,
-        over: pen.over,
-        writing: pen.writing,
+        ..pen
     }
 }
 
@@ -30,23 +28,13 @@ fn put(room: &mut [u8], pen: Pen, x: u8) -> Pen
 {
     let at = pen.at;
     if room.len() <= at {
-        return Pen {
-            at,
-            over: true,
-            writing: pen.writing,
-        };
+        return Pen { over: true, ..pen };
     }
     if pen.writing {
         room[at] = x;
         return on(pen);
     }
     on(pen)
-}
-
-fn bin_number(bin: bool) -> u32
-    ensures { (result ≡ bit_no bin) × (result ≤ 1) }
-{
-    if bin { 1 } else { 0 }
 }
 
 // An entry: its low byte, then its high one.
@@ -63,7 +51,7 @@ pub fn put_bin(room: &mut [u8], pen: Pen, number: usize, bin: bool) -> Pen
     requires { number < 32768 }
     ensures { sheet room.new result ≡ entered (tag number bin) (sheet room.old pen) }
 {
-    let tag = 2 * number as u32 + bin_number(bin);
+    let tag = 2 * number as u32 + u32::from(bin);
     put_entry(room, pen, tag)
 }
 

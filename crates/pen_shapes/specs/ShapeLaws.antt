@@ -1,8 +1,8 @@
 -- The shapes as their code puts them: what is left to write in a loop. Assumes nothing.
-use Prim.Native.Nat.{ℕ, zero, suc, ◌+◌, ◌-◌, ◌*◌, ◌/◌, ◌%◌, ◌^◌, ◌≤◌, ◌<◌}
-use Rattle.std.specs.Prelude.{◌≡◌, refl, Bool, ◌&&◌, List, eqb, length}
+use Prim.Native.Nat.{ℕ, suc, ◌+◌, ◌-◌, ◌*◌, ◌/◌, ◌%◌, ◌^◌, ◌≤◌, ◌<◌}
+use Rattle.std.specs.Prelude.{◌≡◌, refl, Bool, ◌&&◌, eqb, length}
 use Rattle.std.proofs.Math.Path.{sym, ap, subst}
-use Rattle.std.proofs.Common.{◌∙◌, pow-suc, shr-shr, eqb-true}
+use Rattle.std.proofs.Common.{◌∙◌, shr-shr, eqb-true}
 use Rattle.std.proofs.Math.Bool.{true, false}
 use native.Mathlib.Omega.{arith}
 use Rattle.std.proofs.Math.Numerals.{add-one}
@@ -11,8 +11,7 @@ use Rattle.std.proofs.lemmas.Bool.{eqb-false}
 use Rattle.bins.specs.Engine.{bit_no}
 use Rattle.bins.specs.Tags.{tag, bypass_no}
 use Rattle.bins.specs.Syn.{Syn, done, bin, bypass, ◌>>=◌}
-use Rattle.bins.specs.Readers.{odd, flag_if, bits_s, ones_s, prefix_s}
-use Rattle.trees.specs.Shapes.{count_s}
+use Rattle.bins.specs.Readers.{odd, flag_if, bits_s}
 use Rattle.trees.specs.Counters.{Counter}
 use Rattle.pen.specs.Sheet.{Sheet, entered, Wrote, Counts}
 use Rattle.pen.specs.SheetLaws.{entered_long, wrote_none, wrote_on, wrote_bin, wrote_bypass, wrote_then}

@@ -13,9 +13,7 @@ pub fn put_bits(room: &mut [u8], pen: Pen, n: u32, v: u32) -> Pen
     ensures { (w : ℕ) → Wrote (bits_p n v) (done v) w (sheet room.old pen) (sheet room.new result) }
 {
     let mut y = pen;
-    let mut k = n;
-    while 0 < k {
-        k -= 1;
+    for k in (0..n).rev() {
         y = put_bypass(room, y, (v >> k) % 2 == 1);
     }
     y
@@ -27,10 +25,8 @@ pub fn put_ones(room: &mut [u8], pen: Pen, n: u32, most: u32) -> Pen
     ensures { (w : ℕ) → Wrote (ones_p most n) (done n) w (sheet room.old pen) (sheet room.new result) }
 {
     let mut y = pen;
-    let mut g: u32 = 0;
-    while g < n {
+    for _g in 0..n {
         y = put_bypass(room, y, true);
-        g += 1;
     }
     if n < most {
         return put_bypass(room, y, false);
@@ -44,11 +40,9 @@ pub fn put_count(room: &mut [u8], pen: Pen, first: usize, later: usize, n: u32, 
     ensures { (w : ℕ) → Wrote (count_p (first_then first later) most n) (done n) w (sheet room.old pen) (sheet room.new result) }
 {
     let mut y = pen;
-    let mut g: u32 = 0;
     let mut number = first;
-    while g < n {
+    for _g in 0..n {
         y = put_bin(room, y, number, true);
-        g += 1;
         number = later;
     }
     if n < most {

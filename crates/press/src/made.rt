@@ -2,9 +2,8 @@
 use bins::tags::CONTEXTS;
 use frame::fields::params;
 use hevc_residual::params::Params;
-use press_advice::advice::{Change, Place, change_of, place_of};
+use press_advice::advice::{Place, change_of, place_of};
 use press_drawing::press::press;
-use press_frame::press::Pressed;
 use press_text::words;
 use std::io;
 use text::lines::part;
@@ -17,8 +16,8 @@ fn level_at(levels: &[i32; 1024], i: usize) -> i32 {
 // The change that press_advice has shown the writer to take.
 fn suggested(to: &impl Print, n: usize, p: Params, levels: &[i32; 1024]) -> io::Result<()> {
     match change_of(p, levels) {
-        Change::To(i, v) => words::instead(to, n, i, level_at(levels, i), v),
-        Change::Nothing => words::nothing_does(to),
+        Some(c) => words::instead(to, n, c.place, level_at(levels, c.place), c.level),
+        None => words::nothing_does(to),
     }
 }
 
@@ -48,11 +47,11 @@ pub fn made(
 ) -> io::Result<()> {
     let mut room = [0u8; 4234];
     match press(head, initial, levels, &mut room) {
-        Pressed::Frame(long) => {
+        Ok(long) => {
             write::hex_bytes(out, part(&room, 0, long))?;
             write::end_line(out)
         }
-        Pressed::No(number) => {
+        Err(number) => {
             words::refused(to, line, number)?;
             advised(to, n, params(head), levels)?;
             words::end_line(to)

@@ -24,10 +24,10 @@ const LINE: usize = 4096;
 struct Held {
     window: Window,
     sheet: Sheet,
-    more: bool,
     tail: bool,
 }
 
+// One line; none behind the end.
 fn turn(
     input: &mut impl Read,
     out: &impl Print,
@@ -38,7 +38,7 @@ fn turn(
     levels: &mut [i32; 1024],
     filled: &mut [usize; 32],
     h: Held,
-) -> io::Result<Held> {
+) -> io::Result<Option<Held>> {
     let window = h.window;
     let before = h.sheet;
     match lines::next(input, buffer, window)? {
@@ -54,35 +54,28 @@ fn turn(
                 filled,
                 before,
             )?;
-            Ok(Held {
+            Ok(Some(Held {
                 window: left,
                 sheet,
-                more: true,
                 tail: false,
-            })
+            }))
         }
         Line::Ended => {
-            let sheet = sheet::end(out, to, head, initial, levels, filled, before)?;
-            Ok(Held {
-                window,
-                sheet,
-                more: false,
-                tail: false,
-            })
+            sheet::end(out, to, head, initial, levels, filled, before)?;
+            Ok(None)
         }
         Line::TooLong => {
             let sheet = sheet::long(to, h.tail, before)?;
-            Ok(Held {
+            Ok(Some(Held {
                 window: lines::nothing_read(),
                 sheet,
-                more: true,
                 tail: true,
-            })
+            }))
         }
     }
 }
 
-// Nothing says that the input ends: the loop counts down from a number that no run uses up.
+// Nothing says that the input ends: the loop counts to a number that no run uses up.
 fn turns(
     input: &mut impl Read,
     out: &impl Print,
@@ -97,17 +90,14 @@ fn turns(
     let mut h = Held {
         window: lines::nothing_read(),
         sheet: blank,
-        more: true,
         tail: false,
     };
     sheet::clear(head, initial, levels, filled);
-    let mut left = u64::MAX;
-    while 0 < left {
-        h = turn(input, out, to, buffer, head, initial, levels, filled, h)?;
-        if !h.more {
+    for _ in 0..u64::MAX {
+        let Some(next) = turn(input, out, to, buffer, head, initial, levels, filled, h)? else {
             return Ok(());
-        }
-        left -= 1;
+        };
+        h = next;
     }
     Ok(())
 }

@@ -5,8 +5,7 @@ use bins::tags::CONTEXTS;
 use check::same;
 use octet_scan::find;
 use press_text::keys::Taken;
-use press_text::rows::Row;
-use press_text::words::{LATE, LONG, NO_SIZE};
+use press_text::words::{BadInput, Why};
 use press_text::{keys, rows, values, words};
 use press_tokens::tokens::{end_of, start_of};
 use std::io;
@@ -16,7 +15,7 @@ use text::lines::part;
 #[derive(Clone, Copy)]
 pub struct Sheet {
     pub line: u64, // how many lines were read
-    pub first: u64, // the line at which the drawing began; 0 where none has begun
+    pub first: Option<u64>, // the line at which the drawing began
     pub bad: bool, // the drawing has bad input: its other lines are left out
     pub shown: bool, // rows stand as `show` prints them
     pub begun: bool, // a row was given
@@ -26,7 +25,7 @@ pub struct Sheet {
 pub fn blank() -> Sheet {
     Sheet {
         line: 0,
-        first: 0,
+        first: None,
         bad: false,
         shown: false,
         begun: false,
@@ -49,24 +48,24 @@ pub fn clear(
 
 // No input has so many lines.
 fn next_line(h: Sheet) -> Sheet {
-    let mut r = h;
-    if r.line < 1000000000000000 {
-        r.line += 1;
-    }
-    r
+    let line = if h.line < 1000000000000000 {
+        h.line + 1
+    } else {
+        h.line
+    };
+    Sheet { line, ..h }
 }
 
 fn cleared(h: Sheet) -> Sheet {
-    let mut r = blank();
-    r.line = h.line;
-    r
+    Sheet {
+        line: h.line,
+        ..blank()
+    }
 }
 
-fn spoiled(to: &impl Print, h: Sheet, at: usize, why: u8) -> io::Result<Sheet> {
-    words::bad(to, h.line, at, why)?;
-    let mut r = h;
-    r.bad = true;
-    Ok(r)
+fn spoiled(to: &impl Print, h: Sheet, b: BadInput) -> io::Result<Sheet> {
+    words::bad(to, h.line, b)?;
+    Ok(Sheet { bad: true, ..h })
 }
 
 // A drawing that has all its rows is made; of another the row that is missing is told.
@@ -77,17 +76,25 @@ fn finished(
     initial: &[u8; CONTEXTS],
     levels: &[i32; 1024],
     filled: &[usize; 32],
-    h: Sheet,
+    line: u64,
+    first: u64,
 ) -> io::Result<()> {
     let n = rows::side(head[0]);
     if n == 0 {
-        return words::bad(to, h.line, 0, NO_SIZE);
+        return words::bad(
+            to,
+            line,
+            BadInput {
+                at: 0,
+                why: Why::NoSize,
+            },
+        );
     }
     let row = rows::missing(n, filled);
     if row < n {
-        return words::missing(to, h.line, row, n);
+        return words::missing(to, line, row, n);
     }
-    made::made(out, to, h.first, n, head, initial, levels)
+    made::made(out, to, first, n, head, initial, levels)
 }
 
 // What ends a drawing, if one has begun.
@@ -100,11 +107,11 @@ pub fn end(
     filled: &mut [usize; 32],
     h: Sheet,
 ) -> io::Result<Sheet> {
-    if h.first == 0 {
+    let Some(first) = h.first else {
         return Ok(cleared(h));
-    }
+    };
     if !h.bad {
-        finished(out, to, head, initial, levels, filled, h)?;
+        finished(out, to, head, initial, levels, filled, h.line, first)?;
     }
     clear(head, initial, levels, filled);
     Ok(cleared(h))
@@ -118,16 +125,19 @@ fn keyed(
     h: Sheet,
 ) -> io::Result<Sheet> {
     if h.begun {
-        return spoiled(to, h, start_of(s, 0, false), LATE);
+        return spoiled(
+            to,
+            h,
+            BadInput {
+                at: start_of(s, 0, false),
+                why: Why::Late,
+            },
+        );
     }
     match keys::key(s, head, initial) {
-        Taken::Yes => Ok(h),
-        Taken::Shown => {
-            let mut r = h;
-            r.shown = true;
-            Ok(r)
-        }
-        Taken::No(at, why) => spoiled(to, h, at, why),
+        Ok(Taken::Word) => Ok(h),
+        Ok(Taken::Shown) => Ok(Sheet { shown: true, ..h }),
+        Err(b) => spoiled(to, h, b),
     }
 }
 
@@ -139,7 +149,7 @@ fn row_of(
     filled: &mut [usize; 32],
     shown: bool,
     row: usize,
-) -> Row {
+) -> Result<usize, BadInput> {
     if shown {
         return rows::shown(s, log2, levels, filled);
     }
@@ -155,18 +165,25 @@ fn rowed(
     h: Sheet,
 ) -> io::Result<Sheet> {
     if log2 == 0 {
-        return spoiled(to, h, start_of(s, 0, false), NO_SIZE);
+        return spoiled(
+            to,
+            h,
+            BadInput {
+                at: start_of(s, 0, false),
+                why: Why::NoSize,
+            },
+        );
     }
     match row_of(s, log2, levels, filled, h.shown, h.rows) {
-        Row::Has(_) => {
-            let mut r = h;
-            r.begun = true;
-            if r.rows < 32 {
-                r.rows += 1;
-            }
-            Ok(r)
+        Ok(_) => {
+            let rows = if h.rows < 32 { h.rows + 1 } else { h.rows };
+            Ok(Sheet {
+                begun: true,
+                rows,
+                ..h
+            })
         }
-        Row::Bad(at, why) => spoiled(to, h, at, why),
+        Err(b) => spoiled(to, h, b),
     }
 }
 
@@ -211,11 +228,10 @@ fn within(
 }
 
 fn begun(h: Sheet) -> Sheet {
-    let mut r = h;
-    if r.first == 0 {
-        r.first = r.line;
+    Sheet {
+        first: h.first.or(Some(h.line)),
+        ..h
     }
-    r
 }
 
 // The next line, unless it is the tail of one that was too long.
@@ -257,5 +273,12 @@ pub fn long(to: &impl Print, tail: bool, before: Sheet) -> io::Result<Sheet> {
     if h.bad {
         return Ok(h);
     }
-    spoiled(to, h, 4095, LONG)
+    spoiled(
+        to,
+        h,
+        BadInput {
+            at: 4095,
+            why: Why::Long,
+        },
+    )
 }

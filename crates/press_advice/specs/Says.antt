@@ -1,5 +1,5 @@
 -- What the two answers of advice say, in their own words.
-use Rattle.std.specs.Prelude.{ℕ, ◌-◌, ◌*◌, ◌/◌, ◌%◌, ◌^◌, ◌<◌, ◌≡◌, true, false, List, ℤ, pos, get_or, set, take}
+use Rattle.std.specs.Prelude.{ℕ, ◌-◌, ◌*◌, ◌/◌, ◌%◌, ◌^◌, ◌<◌, ◌≡◌, true, false, List, ℤ, pos, get_or, set, take, Some, None, Option}
 use Rattle.hevc_residual.specs.declared.params.Params.{Params}
 use Rattle.hevc_residual.specs.Scan.{spot}
 use Rattle.hevc_residual.specs.Wanted.{area, outer_of}
@@ -7,7 +7,6 @@ use Rattle.hevc_residual.specs.Numbers.{parameter_refusal}
 use Rattle.press_advice.specs.declared.advice.Place.{Place}
 use Rattle.press_advice.specs.declared.advice.Place.TheVariants as ofPlace
 use Rattle.press_advice.specs.declared.advice.Change.{Change}
-use Rattle.press_advice.specs.declared.advice.Change.TheVariants as ofChange
 use Rattle.press_strokes.specs.Advice.{First, refusal_of, is_far, is_off_at, is_off_in, stroke_of, is_taken}
 
 -- the first level out of range
@@ -39,6 +38,6 @@ pub record Suggested (p : Params) (levels : List ℤ) (i : ℕ) (v : ℤ) : Type
   pub first : (j : ℕ) → j < change → is_taken p levels j ≡ false
 
 -- nothing where the parameters are refused by 4, or the writer takes no change
-abbrev pub ChangeHolds : Params → List ℤ → Change → Type 0
-ChangeHolds p levels (ofChange.To i v) = Suggested p levels i v
-ChangeHolds p levels ofChange.Nothing = 0 ≡ parameter_refusal p levels → (j : ℕ) → j < 3 * area p → is_taken p levels j ≡ false
+abbrev pub ChangeHolds : Params → List ℤ → Option Change → Type 0
+ChangeHolds p levels (Some c) = Suggested p levels c.place c.level
+ChangeHolds p levels None = 0 ≡ parameter_refusal p levels → (j : ℕ) → j < 3 * area p → is_taken p levels j ≡ false

@@ -14,7 +14,7 @@ use hevc_wanted::sub::corner_at;
 use press_strokes::search::{first_far, first_off, first_taken, refusal};
 use press_strokes::strokes::stroke_at;
 
-// Where the writer's number comes from.
+// Where the writer's number comes from. Three answers, so neither an Option nor a Result.
 #[derive(Clone, Copy)]
 pub enum Place {
     Nowhere(u32), // nothing is refused, or by a number of no place: 0, 4, 9
@@ -24,9 +24,9 @@ pub enum Place {
 
 // A level in another's place, by the place row by row.
 #[derive(Clone, Copy)]
-pub enum Change {
-    To(usize, i32),
-    Nothing,
+pub struct Change {
+    pub place: usize,
+    pub level: i32,
 }
 
 // 8
@@ -76,16 +76,19 @@ pub fn place_of(p: Params, levels: &[i32; 1024]) -> Place
 }
 
 // The first single change that the writer takes: of each level, row by row, its magnitude one more, one less, its other sign.
-pub fn change_of(p: Params, levels: &[i32; 1024]) -> Change
+pub fn change_of(p: Params, levels: &[i32; 1024]) -> Option<Change>
     ensures { ChangeHolds p levels.now result }
 {
     if parameter_refusal(p, levels) != 0 {
-        return Change::Nothing;
+        return None;
     }
     let c = first_taken(p, levels);
     if c < 3 * area_of(p.log2) {
         let i = c / 3;
-        return Change::To(i, stroke_at(levels, i, c % 3));
+        return Some(Change {
+            place: i,
+            level: stroke_at(levels, i, c % 3),
+        });
     }
-    Change::Nothing
+    None
 }

@@ -7,10 +7,8 @@ use bins::tags::CONTEXTS;
 use cabac_init::contexts::init_contexts;
 use frame::fields::params;
 use hevc_block_packer::entries::pack_bins;
-use hevc_residual::answers::Written;
 use hevc_residual::params::Rdpcm;
 use hevc_writer::entries::write_bins;
-use packer::list::Packing;
 use press_frame::press::{Pressed, handed_refusal, line_number, put_frame};
 
 // The list as a payload, and the frame with it.
@@ -24,8 +22,8 @@ fn pack_drawing(head: &[u8], values: &[u8], list: &[u8], room: &mut [u8]) -> Pre
     let mut payload = [0u8; 4096];
     let r = pack_bins(&contexts, &stats, params(head), list, &mut payload);
     match r {
-        Packing::Payload(n) => Pressed::Frame(put_frame(head, values, &payload[..n], room)),
-        Packing::Refused(m) => Pressed::No(line_number(m)),
+        Ok(n) => Ok(put_frame(head, values, &payload[..n], room)),
+        Err(m) => Err(line_number(m)),
     }
 }
 
@@ -35,7 +33,7 @@ pub fn press(head: &[u8], values: &[u8], levels: &[i32], room: &mut [u8]) -> Pre
 {
     let a = handed_refusal(room.len(), head, values);
     if a != 0 {
-        return Pressed::No(a);
+        return Err(a);
     }
     let mut stats = [0u8; 4];
     let mut list = [0u8; 71088];
@@ -48,7 +46,7 @@ pub fn press(head: &[u8], values: &[u8], levels: &[i32], room: &mut [u8]) -> Pre
         &mut list,
     );
     match w {
-        Written::List(n) => pack_drawing(head, values, &list[..n], room),
-        Written::Refused(m) => Pressed::No(m),
+        Ok(n) => pack_drawing(head, values, &list[..n], room),
+        Err(m) => Err(m),
     }
 }

@@ -25,10 +25,8 @@ use Rattle.hevc_exact.specs.Exact.{Wrote, wrote}
 use Rattle.packing.specs.Entries.{BinsPacked}
 use Rattle.hevc_packer.specs.Entries.{pack_bins}
 use Rattle.hevc_packer.specs.ReadAgain.{ReadAgain, pack_is_read}
-use Rattle.frame.specs.declared.judge.Verdict.{Verdict}
-use Rattle.frame.specs.declared.judge.Verdict.TheVariants as ofVerdict
 use Rattle.frame.specs.Frame.{params_of, flags_refusal, payload_of, values_of, quantiser_of}
-use Rattle.frame.specs.Verdict.{no_levels, read_verdict, started_verdict, checks_of, verdict_by, verdict}
+use Rattle.frame.specs.Verdict.{no_levels, read_verdict, started_verdict, checks_of, verdict_by, verdict, ok}
 use Rattle.press_frame.specs.Pressed.{frame_of, handed_refusal, no_statistics, contexts_of, framed, packed_for, listed, written_for, pressed_by, pressed}
 use Rattle.press_frame.specs.FrameLong.{Long, frame_long, packed_few}
 use Rattle.press_frame.specs.PressedLaws.{Handed, handed, params_same, flags_same, quantiser_same, values_same, payload_same}
@@ -64,7 +62,7 @@ module _ (head values P : List ℕ) (six : length head ≡ 6) (many : length val
 
   started_is : (f : FoundAt) → start P ≡ accepted (started P)
       → (read_payload P (started P) (contexts_of head values) no_statistics p no_levels).answer ≡ accepted f
-      → started_verdict bytes (start (payload_of bytes)) ≡ ofVerdict.Ok f.found.greatest f.next.past
+      → started_verdict bytes (start (payload_of bytes)) ≡ ok f.found.greatest f.next.past
   unfolding started_verdict read_verdict
   started_is f s r =
       ap (λ (x : List ℕ). started_verdict bytes (start x)) (payload_same head values P six many)
@@ -77,7 +75,7 @@ module _ (head values P : List ℕ) (six : length head ≡ 6) (many : length val
 
   judged_by_lem : (f : FoundAt) → 0 ≡ parameter_refusal p no_levels → start P ≡ accepted (started P)
       → (read_payload P (started P) (contexts_of head values) no_statistics p no_levels).answer ≡ accepted f
-      → verdict bytes ≡ ofVerdict.Ok f.found.greatest f.next.past
+      → verdict bytes ≡ ok f.found.greatest f.next.past
   unfolding verdict verdict_by
   judged_by_lem f b s r = ap (λ (n : ℕ). verdict_by n bytes) (checks_none (start_long P s) b) ∙ started_is f s r
 
@@ -133,11 +131,11 @@ module _ (head values : List ℕ) (levels : List ℤ) (six : length head ≡ 6) 
         let e : Answer.accepted again.found ≡ Answer.accepted (found_of w.reads.answer) = sym (ap (λ (b : BinsRead). b.answer) again.listed) ∙ list_reads in
         cc
 
-    pub judged_frame : verdict (frame_of head values P) ≡ ofVerdict.Ok (greatest_of (take (area q) levels)) 0
+    pub judged_frame : verdict (frame_of head values P) ≡ ok (greatest_of (take (area q) levels)) 0
     judged_frame =
         judged_by_lem head values P six many flags (record { found = again.found; next = again.next }) within again.starts (ap (λ (x : PayloadRead). x.answer) again.reads)
-        ∙ ap (λ (x : ℕ). ofVerdict.Ok x again.next.past) (ap (λ (x : Found). x.greatest) same_found_lem ∙ greatest_is)
-        ∙ ap (ofVerdict.Ok (greatest_of (take (area q) levels))) again.closes.clean
+        ∙ ap (λ (x : ℕ). ok x again.next.past) (ap (λ (x : Found). x.greatest) same_found_lem ∙ greatest_is)
+        ∙ ap (ok (greatest_of (take (area q) levels))) again.closes.clean
 
 not_accepted : {X : Type 0} (n : ℕ) (f : List ℕ) → ◌≡◌ {A = Answer (List ℕ)} (refused n) (accepted f) → X
 not_accepted n f e = let y : ◌≡◌ {A = ℕ} 0 1 = cc in absurd (omega arith)
@@ -165,7 +163,7 @@ pressed_from (suc k) head values levels f e = not_accepted (suc k) f e
 
 -- whatever is drawn: where there is a frame, the book answers ok, the greatest magnitude, 0
 pub pressed_judged : (room : ℕ) (head values : List ℕ) (levels : List ℤ) (f : List ℕ) → pressed room head values levels ≡ accepted f
-    → verdict f ≡ ofVerdict.Ok (greatest_of (take (area (params_of head)) levels)) 0
+    → verdict f ≡ ok (greatest_of (take (area (params_of head)) levels)) 0
 unfolding pressed
 pressed_judged room head values levels f e =
     let a = pressed_from (handed_refusal room head values) head values levels f e in

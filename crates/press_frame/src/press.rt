@@ -7,11 +7,7 @@ use frame::fields::flags_refusal;
 use text_room::put;
 
 // The frame's length in the room, or the number of the refusal.
-#[derive(Clone, Copy)]
-pub enum Pressed {
-    Frame(usize),
-    No(u32),
-}
+pub type Pressed = Result<usize, u32>;
 
 // 4
 pub fn handed_refusal(room: usize, head: &[u8], values: &[u8]) -> u32

@@ -9,10 +9,8 @@ use Rattle.hevc_residual.specs.Wanted.{area}
 use Rattle.hevc_residual.specs.Residual.{greatest_of}
 use Rattle.book_lines.specs.Lines.{ended, line_feed}
 use Rattle.book_lines.specs.Form.{form_refusal}
-use Rattle.frame.specs.declared.judge.Verdict.{Verdict}
-use Rattle.frame.specs.declared.judge.Verdict.TheVariants as ofVerdict
 use Rattle.frame.specs.Frame.{params_of}
-use Rattle.frame.specs.Verdict.{verdict}
+use Rattle.frame.specs.Verdict.{verdict, Verdict, ok}
 use Rattle.book_answers.specs.Answers.{judged_by, judged, ok_words, verdict_words, answer_line}
 use Rattle.press_frame.specs.Pressed.{pressed}
 use Rattle.press_frame.specs.Judged.{pressed_judged, pressed_long}
@@ -26,7 +24,7 @@ module _ (room : ℕ) (head values : List ℕ) (levels : List ℤ) (f : List ℕ
   pub line_passes : form_refusal (ended (spelled f)) ≡ 0
   line_passes = spelled_form f o (pressed_long room head values levels f e)
 
-  line_judged : judged (ended (spelled f)) ≡ ofVerdict.Ok greatest 0
+  line_judged : judged (ended (spelled f)) ≡ ok greatest 0
   unfolding judged judged_by
   line_judged =
       ap (λ (n : ℕ). judged_by n (spelled f)) line_passes

@@ -24,8 +24,7 @@ use Rattle.packing.specs.Pack.{kind_of, entries_of, encoded, ctx_after, packed_b
 use Rattle.packing.specs.Entries.{BinsPacked, pack_into_by, pack_into, pack_list, pack_tree}
 use Rattle.hevc_packer.specs.Entries.{pack_bins}
 use Rattle.frame.specs.Frame.{params_of, flags_refusal}
-use Rattle.frame.specs.declared.judge.Verdict.TheVariants as ofVerdict
-use Rattle.frame.specs.Verdict.{verdict}
+use Rattle.frame.specs.Verdict.{verdict, ok}
 use Rattle.press_frame.specs.Pressed.{frame_of, handed_refusal, no_statistics, contexts_of, framed, listed, pressed_by, pressed}
 use Rattle.press_frame.specs.Judged.{pressed_judged}
 
@@ -66,5 +65,5 @@ unfolding head levels params_of greatest_of
 greatest_one = refl
 
 -- so the book's answer to it follows
-pub judged_one : verdict (frame_of head values payload) ≡ ofVerdict.Ok 1 0
-judged_one = pressed_judged 4234 head values levels (frame_of head values payload) pressed_one ∙ ap (λ (n : ℕ). ofVerdict.Ok n 0) greatest_one
+pub judged_one : verdict (frame_of head values payload) ≡ ok 1 0
+judged_one = pressed_judged 4234 head values levels (frame_of head values payload) pressed_one ∙ ap (λ (n : ℕ). ok n 0) greatest_one

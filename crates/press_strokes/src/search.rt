@@ -25,12 +25,10 @@ pub fn first_far(t: u32, n: usize, levels: &[i32; 1024]) -> usize
     requires { (t ≤ 22) × (n ≤ 1024) }
     ensures { First (is_far_by t levels.now) n result }
 {
-    let mut i: usize = 0;
-    while i < n {
+    for i in 0..n {
         if far_at(t, levels, i) {
             return i;
         }
-        i += 1;
     }
     n
 }
@@ -56,12 +54,10 @@ pub fn first_off(p: Params, block: &[i32]) -> usize
     let order = inner_order(p.scan);
     let outer = outer_order(p.log2, p.scan);
     let n = grid(p.log2);
-    let mut i: usize = 0;
-    while i < n {
+    for i in 0..n {
         if off_at(p, block, &order, &outer, i) {
             return i;
         }
-        i += 1;
     }
     n
 }
@@ -107,12 +103,10 @@ pub fn first_taken(p: Params, levels: &[i32; 1024]) -> usize
     ensures { First (is_taken p levels.now) (3 * area p) result }
 {
     let n = 3 * area_of(p.log2);
-    let mut c: usize = 0;
-    while c < n {
+    for c in 0..n {
         if is_taken(p, levels, c) {
             return c;
         }
-        c += 1;
     }
     n
 }

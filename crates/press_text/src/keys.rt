@@ -1,124 +1,80 @@
 // The lines that begin with a word: what is settled before the block.
 ghost use Rattle.std.specs.Prelude.{◌≤◌};
 
-use crate::words::{BEHIND, DEPTH, QP, SCAN, SIZE, VALUES, WORD};
+use crate::words::{BadInput, Why};
 use bins::tags::CONTEXTS;
 use check::same;
 use press_tokens::tokens::{end_of, start_of};
 use text::lines::part;
-use text_fields::fields::{Number, Octets, decimal};
+use text_fields::fields::decimal;
 use text_octets::octets::hex_bytes;
 
-// Taken; the block stands as `show` prints it; or no, from a place of the line on, for a reason of words.rt.
+// What a line that was taken says: a word of the drawing, or that the block stands as `show` prints it.
 #[derive(Clone, Copy)]
 pub enum Taken {
-    Yes,
+    Word,
     Shown,
-    No(usize, u8),
-}
-
-#[derive(Clone, Copy)]
-enum Small {
-    Is(u8),
-    No,
 }
 
 // A number between two.
-fn within(value: &[u8], least: u64, most: u64) -> Small
+fn within(value: &[u8], least: u64, most: u64) -> Option<u8>
     requires { most ≤ 255 }
 {
     match decimal(value) {
-        Number::Is(n) => {
+        Some(n) => {
             if n < least {
-                return Small::No;
+                return None;
             }
             if most < n {
-                return Small::No;
+                return None;
             }
-            Small::Is(n as u8)
+            Some(n as u8)
         }
-        Number::Missing => Small::No,
+        None => None,
     }
 }
 
-fn log2_of(value: &[u8]) -> u8 {
-    match within(value, 4, 32) {
-        Small::Is(n) => match n {
-            4 => 2,
-            8 => 3,
-            16 => 4,
-            32 => 5,
-            _ => 0,
-        },
-        Small::No => 0,
+fn log2_of(value: &[u8]) -> Option<u8> {
+    match within(value, 4, 32)? {
+        4 => Some(2),
+        8 => Some(3),
+        16 => Some(4),
+        32 => Some(5),
+        _ => None,
     }
 }
 
-fn size(value: &[u8], at: usize, head: &mut [u8; 6]) -> Taken {
-    let log2 = log2_of(value);
-    if log2 == 0 {
-        return Taken::No(at, SIZE);
-    }
-    head[0] = log2;
-    Taken::Yes
-}
-
-fn scan_of(value: &[u8]) -> Small {
+fn scan_of(value: &[u8]) -> Option<u8> {
     if same(value, b"diagonal") {
-        return Small::Is(0);
+        return Some(0);
     }
     if same(value, b"rows") {
-        return Small::Is(1);
+        return Some(1);
     }
     if same(value, b"columns") {
-        return Small::Is(2);
+        return Some(2);
     }
-    Small::No
+    None
 }
 
-fn scan(value: &[u8], at: usize, head: &mut [u8; 6]) -> Taken {
-    match scan_of(value) {
-        Small::Is(n) => {
-            head[2] = n;
-            Taken::Yes
-        }
-        Small::No => Taken::No(at, SCAN),
-    }
+// A byte of the header, where its word has a value.
+fn set(byte: &mut u8, value: Option<u8>, bad: BadInput) -> Result<(), BadInput> {
+    *byte = value.ok_or(bad)?;
+    Ok(())
 }
 
-fn depth(value: &[u8], at: usize, head: &mut [u8; 6]) -> Taken {
-    match within(value, 8, 16) {
-        Small::Is(n) => {
-            head[3] = n;
-            Taken::Yes
-        }
-        Small::No => Taken::No(at, DEPTH),
-    }
-}
-
-fn qp(value: &[u8], at: usize, head: &mut [u8; 6]) -> Taken {
-    match within(value, 0, 51) {
-        Small::Is(n) => {
-            head[4] = n;
-            Taken::Yes
-        }
-        Small::No => Taken::No(at, QP),
-    }
-}
-
-fn initial(value: &[u8], at: usize, values: &mut [u8; CONTEXTS]) -> Taken {
+// The values of all contexts.
+fn initial(value: &[u8], at: usize, values: &mut [u8; CONTEXTS]) -> Result<(), BadInput> {
     match hex_bytes(value, values) {
-        Octets::Are(n) => {
-            if n == CONTEXTS {
-                return Taken::Yes;
-            }
-            Taken::No(at, VALUES)
-        }
-        Octets::Missing => Taken::No(at, VALUES),
+        Some(CONTEXTS) => Ok(()),
+        _ => Err(BadInput {
+            at,
+            why: Why::Values,
+        }),
     }
 }
 
-// A word with a value behind it.
+// A word with a value behind it, at a place of the line.
 fn with_value(
     word: &[u8],
     value: &[u8],
@@ -126,64 +82,96 @@ fn with_value(
     at: usize,
     head: &mut [u8; 6],
     values: &mut [u8; CONTEXTS],
-) -> Taken {
+) -> Result<(), BadInput> {
     if same(word, b"size") {
-        return size(value, at, head);
+        return set(
+            &mut head[0],
+            log2_of(value),
+            BadInput { at, why: Why::Size },
+        );
     }
     if same(word, b"scan") {
-        return scan(value, at, head);
+        return set(
+            &mut head[2],
+            scan_of(value),
+            BadInput { at, why: Why::Scan },
+        );
     }
     if same(word, b"depth") {
-        return depth(value, at, head);
+        return set(
+            &mut head[3],
+            within(value, 8, 16),
+            BadInput {
+                at,
+                why: Why::Depth,
+            },
+        );
     }
     if same(word, b"qp") {
-        return qp(value, at, head);
+        return set(
+            &mut head[4],
+            within(value, 0, 51),
+            BadInput { at, why: Why::Qp },
+        );
     }
     if same(word, b"values") {
         return initial(value, at, values);
     }
-    Taken::No(first, WORD)
+    Err(BadInput {
+        at: first,
+        why: Why::Word,
+    })
 }
 
 // A word that stands alone, by the byte of the header that it sets.
-fn alone(word: &[u8], first: usize, head: &mut [u8; 6]) -> Taken {
+fn alone(word: &[u8], first: usize, head: &mut [u8; 6]) -> Result<Taken, BadInput> {
     if same(word, b"luma") {
         head[1] = 1;
-        return Taken::Yes;
+        return Ok(Taken::Word);
     }
     if same(word, b"chroma") {
         head[1] = 0;
-        return Taken::Yes;
+        return Ok(Taken::Word);
     }
     if same(word, b"hiding") {
         head[5] = 1;
-        return Taken::Yes;
+        return Ok(Taken::Word);
     }
     if same(word, b"shown") {
-        return Taken::Shown;
+        return Ok(Taken::Shown);
     }
-    Taken::No(first, WORD)
+    Err(BadInput {
+        at: first,
+        why: Why::Word,
+    })
 }
 
 fn stands_alone(word: &[u8]) -> bool {
     same(word, b"luma") | same(word, b"chroma") | same(word, b"hiding") | same(word, b"shown")
 }
 
-pub fn key(s: &[u8], head: &mut [u8; 6], values: &mut [u8; CONTEXTS]) -> Taken {
+pub fn key(s: &[u8], head: &mut [u8; 6], values: &mut [u8; CONTEXTS]) -> Result<Taken, BadInput> {
     let a = start_of(s, 0, false);
     let b = end_of(s, a, false);
     let c = start_of(s, b, false);
     let word = part(s, a, b);
     if stands_alone(word) {
         if c < s.len() {
-            return Taken::No(c, BEHIND);
+            return Err(BadInput {
+                at: c,
+                why: Why::Behind,
+            });
         }
         return alone(word, a, head);
     }
     let d = end_of(s, c, false);
     let e = start_of(s, d, false);
     if e < s.len() {
-        return Taken::No(e, BEHIND);
+        return Err(BadInput {
+            at: e,
+            why: Why::Behind,
+        });
     }
-    with_value(word, part(s, c, d), a, c, head, values)
+    with_value(word, part(s, c, d), a, c, head, values)?;
+    Ok(Taken::Word)
 }

@@ -1,25 +1,12 @@
 // The lines with levels: numbers parted by blanks, a dot for 0.
 ghost use Rattle.std.specs.Prelude.{◌≤◌};
 
-use crate::words::{FEW, LEVEL, MANY, ROW, ROWS};
+use crate::words::{BadInput, Why};
 use check::same;
 use octet_scan::find;
 use press_tokens::tokens::{end_of, start_of};
 use text::lines::part;
-use text_fields::fields::{Number, decimal};
-
-// So many levels; or not, from a place of the line on, for a reason of words.rt.
-#[derive(Clone, Copy)]
-pub enum Row {
-    Has(usize),
-    Bad(usize, u8),
-}
-
-#[derive(Clone, Copy)]
-enum Level {
-    Is(i32),
-    No,
-}
+use text_fields::fields::decimal;
 
 fn turned(m: u32) -> i32
     requires { m ≤ 2147483647 }
@@ -28,25 +15,25 @@ fn turned(m: u32) -> i32
 }
 
 // Digits, of a number that an i32 holds.
-fn digits(s: &[u8], negative: bool) -> Level {
+fn digits(s: &[u8], negative: bool) -> Option<i32> {
     match decimal(s) {
-        Number::Is(n) => {
+        Some(n) => {
             if 2147483647 < n {
-                return Level::No;
+                return None;
             }
             let m = n as u32;
             if negative {
-                return Level::Is(turned(m));
+                return Some(turned(m));
             }
-            Level::Is(m as i32)
+            Some(m as i32)
         }
-        Number::Missing => Level::No,
+        None => None,
     }
 }
 
-fn level_of(s: &[u8]) -> Level {
+fn level_of(s: &[u8]) -> Option<i32> {
     if same(s, b".") {
-        return Level::Is(0);
+        return Some(0);
     }
     if same(part(s, 0, 1), b"-") {
         return digits(part(s, 1, s.len()), true);
@@ -72,25 +59,31 @@ fn numbers(
     levels: &mut [i32; 1024],
     first: usize,
     most: usize,
-) -> Row {
+) -> Result<usize, BadInput> {
     let mut n: usize = 0;
     let mut at = start_of(s, from, marks);
     while at < s.len() {
         if most <= n {
-            return Row::Bad(at, MANY);
+            return Err(BadInput {
+                at: at,
+                why: Why::Many,
+            });
         }
         let to = end_of(s, at, marks);
-        let Level::Is(v) = level_of(part(s, at, to)) else {
-            return Row::Bad(at, LEVEL);
+        let Some(v) = level_of(part(s, at, to)) else {
+            return Err(BadInput {
+                at: at,
+                why: Why::Level,
+            });
         };
         put(levels, first, n, v);
         n += 1;
         at = start_of(s, to, marks);
     }
-    Row::Has(n)
+    Ok(n)
 }
 
-// n of the size.
+// n of the size. grid_places has it and `first_of` for a u32, where any other number is 32x32: the crates that this one may know (crates.txt) have no such.
 pub fn side(log2: u8) -> usize
     ensures { result ≤ 32 }
 {
@@ -123,72 +116,81 @@ pub fn plain(
     row: usize,
     levels: &mut [i32; 1024],
     filled: &mut [usize; 32],
-) -> Row {
+) -> Result<usize, BadInput> {
     let n = side(log2);
     if n <= row {
-        return Row::Bad(0, ROWS);
+        return Err(BadInput {
+            at: 0,
+            why: Why::Rows,
+        });
     }
-    let r = numbers(s, 0, false, levels, first_of(log2, row), n);
-    match r {
-        Row::Has(k) => {
-            if k < n {
-                return Row::Bad(s.len(), FEW);
-            }
-            if row < 32 {
-                filled[row] = n;
-            }
-            r
-        }
-        Row::Bad(_, _) => r,
+    let k = numbers(s, 0, false, levels, first_of(log2, row), n)?;
+    if k < n {
+        return Err(BadInput {
+            at: s.len(),
+            why: Why::Few,
+        });
     }
+    filled[row] = n;
+    Ok(k)
 }
 
 // A row as `show` prints it: its number, a bar, and levels with bars and brackets. Those of a panel stand behind those of the panel above.
-pub fn shown(s: &[u8], log2: u8, levels: &mut [i32; 1024], filled: &mut [usize; 32]) -> Row {
+pub fn shown(
+    s: &[u8],
+    log2: u8,
+    levels: &mut [i32; 1024],
+    filled: &mut [usize; 32],
+) -> Result<usize, BadInput> {
     let n = side(log2);
     let bar = find(s, 0, s.len(), b'|');
     let a = start_of(s, 0, false);
-    let Number::Is(row) = decimal(part(s, a, end_of(s, a, true))) else {
-        return Row::Bad(a, ROW);
+    let Some(row) = decimal(part(s, a, end_of(s, a, true))) else {
+        return Err(BadInput {
+            at: a,
+            why: Why::Row,
+        });
     };
     if 31 < row {
-        return Row::Bad(a, ROW);
+        return Err(BadInput {
+            at: a,
+            why: Why::Row,
+        });
     }
     let i = row as usize;
     if n <= i {
-        return Row::Bad(a, ROW);
+        return Err(BadInput {
+            at: a,
+            why: Why::Row,
+        });
     }
     let before = filled[i];
     if n < before {
-        return Row::Bad(a, MANY);
+        return Err(BadInput {
+            at: a,
+            why: Why::Many,
+        });
     }
     let first = first_of(log2, i);
     if 1024 < first {
-        return Row::Bad(a, ROW);
+        return Err(BadInput {
+            at: a,
+            why: Why::Row,
+        });
     }
-    let r = numbers(s, bar, true, levels, first + before, n - before);
-    match r {
-        Row::Has(k) => {
-            if k <= n - before {
-                filled[i] = before + k;
-            }
-            r
-        }
-        Row::Bad(_, _) => r,
+    let k = numbers(s, bar, true, levels, first + before, n - before)?;
+    if k <= n - before {
+        filled[i] = before + k;
     }
+    Ok(k)
 }
 
 // The first row that is not full; n where all are.
 pub fn missing(n: usize, filled: &[usize; 32]) -> usize {
-    let mut row: usize = 0;
-    while row < 32 {
-        if n <= row {
-            return n;
-        }
+    for row in 0..n.min(32) {
         if filled[row] < n {
             return row;
         }
-        row += 1;
     }
     n
 }

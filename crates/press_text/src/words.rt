@@ -1,76 +1,68 @@
 // What is told: bad input by line and column, and why no picture can hold a drawing.
-use std::io;
+use std::{fmt, io};
 use text::write;
 
-pub const WORD: u8 = 1;
+// Why a line is bad input.
+#[derive(Clone, Copy)]
+pub enum Why {
+    Word,
+    Size,
+    Scan,
+    Depth,
+    Qp,
+    Values,
+    Behind,
+    Level,
+    Many,
+    Few,
+    Row,
+    Rows,
+    NoSize,
+    Late,
+    Long,
+}
 
-pub const SIZE: u8 = 2;
-
-pub const SCAN: u8 = 3;
-
-pub const DEPTH: u8 = 4;
-
-pub const QP: u8 = 5;
-
-pub const VALUES: u8 = 6;
-
-pub const BEHIND: u8 = 7;
-
-pub const LEVEL: u8 = 8;
-
-pub const MANY: u8 = 9;
-
-pub const FEW: u8 = 10;
-
-pub const ROW: u8 = 11;
-
-pub const ROWS: u8 = 12;
-
-pub const NO_SIZE: u8 = 13;
-
-pub const LATE: u8 = 14;
-
-pub const LONG: u8 = 15;
-
-fn reason(to: &impl Print, why: u8) -> io::Result<()> {
-    match why {
-        1 => write::text(
-            to,
-            b"no such word: size, luma, chroma, scan, depth, qp, hiding, values or shown\n",
-        ),
-        2 => write::text(to, b"the size is 4, 8, 16 or 32\n"),
-        3 => write::text(to, b"the scan is diagonal, rows or columns\n"),
-        4 => write::text(to, b"the depth is 8 to 16\n"),
-        5 => write::text(to, b"the QP is 0 to 51\n"),
-        6 => write::text(to, b"the values are 130 bytes in lower-case hexadecimal\n"),
-        7 => write::text(to, b"nothing may stand here\n"),
-        8 => write::text(
-            to,
-            b"not a level: a number to 2147483647 with its sign, or a dot\n",
-        ),
-        9 => write::text(to, b"more levels than the row has\n"),
-        10 => write::text(to, b"the row ends before all its levels\n"),
-        11 => write::text(to, b"no such row\n"),
-        12 => write::text(to, b"more rows than the size says\n"),
-        13 => write::text(to, b"no size was given\n"),
-        14 => write::text(
-            to,
-            b"words stand before the rows, and an empty line or a dot behind them\n",
-        ),
-        _ => write::text(to, b"a line has at most 4095 letters\n"),
+impl fmt::Display for Why {
+    fn fmt<W: fmt::Write>(&self, f: &mut fmt::Formatter<W>) -> fmt::Result {
+        f.write_str(match self {
+            Why::Word =>
+                "no such word: size, luma, chroma, scan, depth, qp, hiding, values or shown",
+            Why::Size => "the size is 4, 8, 16 or 32",
+            Why::Scan => "the scan is diagonal, rows or columns",
+            Why::Depth => "the depth is 8 to 16",
+            Why::Qp => "the QP is 0 to 51",
+            Why::Values => "the values are 130 bytes in lower-case hexadecimal",
+            Why::Behind => "nothing may stand here",
+            Why::Level => "not a level: a number to 2147483647 with its sign, or a dot",
+            Why::Many => "more levels than the row has",
+            Why::Few => "the row ends before all its levels",
+            Why::Row => "no such row",
+            Why::Rows => "more rows than the size says",
+            Why::NoSize => "no size was given",
+            Why::Late => "words stand before the rows, and an empty line or a dot behind them",
+            Why::Long => "a line has at most 4095 letters",
+        })
     }
 }
 
+// BadInput input: from a place of the line on, and why.
+#[derive(Clone, Copy)]
+pub struct BadInput {
+    pub at: usize,
+    pub why: Why,
+}
+
 // `bad input: line 3, column 8: ..`; columns are counted from 1.
-pub fn bad(to: &impl Print, line: u64, at: usize, why: u8) -> io::Result<()> {
+pub fn bad(to: &impl Print, line: u64, b: BadInput) -> io::Result<()> {
     write::text(to, b"bad input: line ")?;
     write::decimal(to, line)?;
     write::text(to, b", column ")?;
-    if at < 4096 {
-        write::count(to, at + 1)?;
+    if b.at < 4096 {
+        write::count(to, b.at + 1)?;
     }
     write::text(to, b": ")?;
-    reason(to, why)
+    to.print(b.why)?;
+    write::end_line(to)
 }
 
 // The drawing ended in a line, and a row has not n levels.

@@ -20,14 +20,12 @@ fn is_blank(b: u8, marks: bool) -> bool {
 pub fn start_of(s: &[u8], from: usize, marks: bool) -> usize
     ensures { from ≤ result }
 {
-    let mut at = from;
-    while at < s.len() {
+    for at in from..s.len() {
         if !is_blank(s[at], marks) {
             return at;
         }
-        at += 1;
     }
-    at
+    from.max(s.len())
 }
 
 // `show` leaves no blank before a sign where cells are narrow.
@@ -45,12 +43,10 @@ fn is_end(b: u8, marks: bool, first: bool) -> bool {
 pub fn end_of(s: &[u8], at: usize, marks: bool) -> usize
     ensures { at ≤ result }
 {
-    let mut to = at;
-    while to < s.len() {
+    for to in at..s.len() {
         if is_end(s[to], marks, to == at) {
             return to;
         }
-        to += 1;
     }
-    to
+    at.max(s.len())
 }

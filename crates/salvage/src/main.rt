@@ -3,7 +3,7 @@
 // A piece is read and fed, and what it gave is written: spoiled_book::salvage says what that is, and that no cut into pieces matters.
 #![tactic(auto)]
 
-ghost use Rattle.std.specs.Prelude.{◌≡◌, ◌+◌, ◌*◌, ◌≤◌, ◌<◌, length, IfOk};
+ghost use Rattle.std.specs.Prelude.{◌≡◌, ◌+◌, ◌*◌, ◌≤◌, ◌<◌, length, IfOk, IfSome};
 ghost use Rattle.spoiled.specs.Salvage.{all};
 
 use book_lines::pending::{Pending, first};
@@ -22,14 +22,13 @@ const BOOK: usize = 12566;
 
 const REPORT: usize = 262144;
 
-// More pieces than any input has: nothing says that the input ends, so the loop counts down.
+// More pieces than any input has: nothing says that the input ends, so the loop counts to this.
 const TURNS: u64 = 2251799813685248;
 
 #[derive(Clone, Copy)]
 pub struct Next {
     pub line: Pending,
     pub tally: Tally,
-    pub more: bool,
 }
 
 // What a piece gave is written, the book to `out` and the report to `to`; false, and a word to `err`, where it could not be.
@@ -83,7 +82,7 @@ fn end(
     Ok(())
 }
 
-// A piece is fed, and what it gave written.
+// A piece is fed, and what it gave written; none where that failed.
 fn fed(
     out: &impl Print,
     err: &impl Print,
@@ -95,24 +94,23 @@ fn fed(
     report: &mut [u8],
     p: Pending,
     t: Tally,
-) -> io::Result<Next>
+) -> io::Result<Option<Next>>
     requires { (length piece.now ≤ 4096) × (length line.old ≡ 8469) × (p.held ≤ 8469) × (length book.old ≡ 12566) × (length report.old ≡ 262144) × (p.number + 4096 < 18446744073709551615) × (all t < p.number) }
-    ensures { IfOk result (λ next. (next.line.held ≤ 8469) × (next.line.number ≤ p.number + 4096) × (all next.tally < next.line.number)) }
+    ensures { IfOk result (λ r. IfSome r (λ next. (next.line.held ≤ 8469) × (next.line.number ≤ p.number + 4096) × (all next.tally < next.line.number))) }
 {
     let s = feed(piece, line, p, t, book, report);
     let b = s.book;
     let r = s.report;
-    let more = written(out, err, alloc, to, &book[..b], &report[..r])?;
-    let line_now = s.line;
-    let tally = s.tally;
-    Ok(Next {
-        line: line_now,
-        tally,
-        more,
-    })
+    if !written(out, err, alloc, to, &book[..b], &report[..r])? {
+        return Ok(None);
+    }
+    Ok(Some(Next {
+        line: s.line,
+        tally: s.tally,
+    }))
 }
 
-// One piece, or the end.
+// One piece; none at the end, or where reading or writing failed.
 fn turn(
     input: &mut impl Read,
     out: &impl Print,
@@ -125,24 +123,19 @@ fn turn(
     report: &mut [u8],
     p: Pending,
     t: Tally,
-) -> io::Result<Next>
+) -> io::Result<Option<Next>>
     requires { (length piece.old ≡ 4096) × (length line.old ≡ 8469) × (p.held ≤ 8469) × (length book.old ≡ 12566) × (length report.old ≡ 262144) × (p.number + 4096 < 18446744073709551615) × (all t < p.number) }
-    ensures { IfOk result (λ next. (next.line.held ≤ 8469) × (next.line.number ≤ p.number + 4096) × (all next.tally < next.line.number)) }
+    ensures { IfOk result (λ r. IfSome r (λ next. (next.line.held ≤ 8469) × (next.line.number ≤ p.number + 4096) × (all next.tally < next.line.number))) }
 {
-    let over = Next {
-        line: p,
-        tally: t,
-        more: false,
-    };
     match input.read(piece) {
         Ok(0) => {
             end(out, err, alloc, to, line, book, report, p, t)?;
-            Ok(over)
+            Ok(None)
         }
         Ok(n) => fed(out, err, alloc, to, &piece[..n], line, book, report, p, t),
         Err(e) => {
             fail(err, alloc, b"the spoiled book", &e)?;
-            Ok(over)
+            Ok(None)
         }
     }
 }
@@ -162,15 +155,12 @@ fn turns(
 {
     let mut p = first();
     let mut t = none();
-    let mut left = TURNS;
-    while 0 < left {
-        let r = turn(input, out, err, alloc, to, piece, line, book, report, p, t)?;
-        if !r.more {
+    for _turn in 0..TURNS {
+        let Some(next) = turn(input, out, err, alloc, to, piece, line, book, report, p, t)? else {
             return Ok(());
-        }
-        p = r.line;
-        t = r.tally;
-        left -= 1;
+        };
+        p = next.line;
+        t = next.tally;
     }
     Ok(())
 }

@@ -1,13 +1,12 @@
 -- Whether two answers of the block reader are the same, field by field; it is yes exactly of equal ones. Assumes nothing.
-use Rattle.std.specs.Prelude.{ℕ, ◌≡◌, refl, Bool, true, false, ◌&&◌, eqb}
+use Rattle.std.specs.Prelude.{ℕ, ◌≡◌, refl, Bool, true, false, ◌&&◌, eqb, Result, Err, Ok}
 use Rattle.std.proofs.Common.{ap, sym, true≢false, eqb-true, eq-eqb}
 use Rattle.std.specs.Bool.{beq}
 use Rattle.bins.specs.declared.state.Engine.{Engine}
 use Rattle.hevc_residual.specs.declared.params.Rdpcm.{Rdpcm}
 use Rattle.hevc_residual.specs.declared.params.Rdpcm.TheVariants as rdpcm
 use Rattle.hevc_residual.specs.declared.answers.Found.{Found}
-use Rattle.hevc_residual.specs.declared.answers.Read.{Read}
-use Rattle.hevc_residual.specs.declared.answers.Read.TheVariants as read
+use Rattle.hevc_residual.specs.declared.answers.ReadBlock.{ReadBlock}
 
 abbrev pub code_of : Rdpcm → ℕ
 code_of rdpcm.None = 0
@@ -24,11 +23,11 @@ same_state a b =
     (((beq a.ended b.ended && eqb a.past b.past) && eqb a.range b.range) && eqb a.offset b.offset)
     && eqb a.position.0 b.position.0
 
-abbrev pub same_answer : Read → Read → Bool
-same_answer (read.Block f e) (read.Block g d) = same_found f g && same_state e d
-same_answer (read.Block f e) (read.Refused m) = false
-same_answer (read.Refused n) (read.Block g d) = false
-same_answer (read.Refused n) (read.Refused m) = eqb n m
+abbrev pub same_answer : Result ReadBlock ℕ → Result ReadBlock ℕ → Bool
+same_answer (Ok f) (Ok g) = same_found f.found g.found && same_state f.state g.state
+same_answer (Ok f) (Err m) = false
+same_answer (Err n) (Ok g) = false
+same_answer (Err n) (Err m) = eqb n m
 
 -- ---- yes exactly of equal ones
 both : (a b : Bool) → (a && b) ≡ true → (a ≡ true) × (b ≡ true)
@@ -84,31 +83,31 @@ state_yes a b q =
     let w : ◌≡◌ {A = Engine} (record { range = a.range; offset = a.offset; position = a.position; ended = a.ended; past = a.past }) (record { range = b.range; offset = b.offset; position = b.position; ended = b.ended; past = b.past }) = cc in
     w
 
-pub answer_yes : (a b : Read) → same_answer a b ≡ true → a ≡ b
-answer_yes (read.Block f e) (read.Block g d) q =
+pub answer_yes : (a b : Result ReadBlock ℕ) → same_answer a b ≡ true → a ≡ b
+answer_yes (Ok f) (Ok g) q =
     let h = both _ _ q in
-    let x : f ≡ g = found_yes f g h.0 in
-    let y : e ≡ d = state_yes e d h.1 in
-    cc
-answer_yes (read.Block f e) (read.Refused m) q = absurd (true≢false (sym q))
-answer_yes (read.Refused n) (read.Block g d) q = absurd (true≢false (sym q))
-answer_yes (read.Refused n) (read.Refused m) q = ap read.Refused (eqb-true n m q)
+    let x : f.found ≡ g.found = found_yes f.found g.found h.0 in
+    let y : f.state ≡ g.state = state_yes f.state g.state h.1 in
+    λ i. Ok (record { found = x i; state = y i })
+answer_yes (Ok f) (Err m) q = absurd (true≢false (sym q))
+answer_yes (Err n) (Ok g) q = absurd (true≢false (sym q))
+answer_yes (Err n) (Err m) q = ap Err (eqb-true n m q)
 
 eqb_same : (n : ℕ) → eqb n n ≡ true
 eqb_same n = eq-eqb n n refl
 
-pub answer_same : (a : Read) → same_answer a a ≡ true
-answer_same (read.Block f e) =
+pub answer_same : (a : Result ReadBlock ℕ) → same_answer a a ≡ true
+answer_same (Ok b) =
     rw (
-      bool_same f.skip,
-      eqb_same (code_of f.rdpcm),
-      eqb_same f.column,
-      eqb_same f.row,
-      eqb_same f.greatest,
-      bool_same e.ended,
-      eqb_same e.past,
-      eqb_same e.range,
-      eqb_same e.offset,
-      eqb_same e.position.0,
+      bool_same b.found.skip,
+      eqb_same (code_of b.found.rdpcm),
+      eqb_same b.found.column,
+      eqb_same b.found.row,
+      eqb_same b.found.greatest,
+      bool_same b.state.ended,
+      eqb_same b.state.past,
+      eqb_same b.state.range,
+      eqb_same b.state.offset,
+      eqb_same b.state.position.0,
     )
-answer_same (read.Refused n) = eqb_same n
+answer_same (Err n) = eqb_same n

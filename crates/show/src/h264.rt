@@ -1,7 +1,7 @@
 // A frame of H.264: its levels by list place and as a grid, or the refusal in words.
 use crate::words;
 use bins::state::Engine;
-use h264_frame::{Shown, list_place, read_frame};
+use h264_frame::{list_place, read_frame};
 use show_grid::grid;
 use std::io;
 use text::write;
@@ -14,20 +14,16 @@ fn spaced(out: &impl Print, level: i32) -> io::Result<()> {
 // The levels by list place.
 fn by_place(out: &impl Print, levels: &[i32; 16]) -> io::Result<()> {
     write::text(out, b"by list place      ")?;
-    let mut i: usize = 0;
-    while i < 16 {
-        spaced(out, levels[i])?;
-        i += 1;
+    for level in levels {
+        spaced(out, *level)?;
     }
     write::end_line(out)
 }
 
 // Row by row, each level from its place in the zig-zag scan.
 fn laid(levels: &[i32; 16], block: &mut [i32; 1024]) {
-    let mut i: usize = 0;
-    while i < 16 {
+    for i in 0..16 {
         block[i] = levels[list_place(i / 4, i % 4)];
-        i += 1;
     }
 }
 
@@ -56,8 +52,8 @@ fn shown(
 pub fn frame(out: &impl Print, bytes: &[u8], payload: usize) -> io::Result<()> {
     let mut levels = [0i32; 16];
     match read_frame(bytes, &mut levels) {
-        Shown::Block(greatest, e) => shown(out, &levels, greatest, e, payload),
-        Shown::Refused(n) => words::refused(out, n),
-        Shown::NoFrame => write::line(out, b"bad input: these are not the bytes of a frame"),
+        Some(Ok(found)) => shown(out, &levels, found.greatest, found.next, payload),
+        Some(Err(n)) => words::refused(out, n),
+        None => write::line(out, b"bad input: these are not the bytes of a frame"),
     }
 }

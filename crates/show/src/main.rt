@@ -12,24 +12,22 @@ mod h264; // h264.rt: a frame of H.264
 mod summary; // summary.rt: count, sum and map
 mod words; // words.rt: refusals and findings in words
 
-ghost use Rattle.std.specs.Prelude.{◌≤◌};
+ghost use Rattle.std.specs.Prelude.{◌≤◌, IfOk};
 
 use bins::places::BitPlace;
 use bins::state::Engine;
 use bins::tags::CONTEXTS;
-use cabac::answers::State;
 use cabac_engine::engine::start;
 use cabac_init::contexts::init_contexts;
 use check::same;
 use hevc_reader::entries::residual_coding;
-use hevc_residual::answers::{Found, Read};
+use hevc_residual::answers::Found;
 use hevc_residual::params::{Params, all_off};
 use octet_scan::find;
 use show_grid::grid;
 use std::io;
 use text::lines::{part, read_full};
 use text::write;
-use text_fields::fields::Octets;
 use text_octets::octets::hex_bytes;
 
 const MOST: usize = 4096;
@@ -42,44 +40,36 @@ const HEADER_DIGITS: usize = 16;
 
 const FRONT_DIGITS: usize = HEADER_DIGITS + 2 * CONTEXTS;
 
-// Some bytes were spelled, so many of them, all by hexadecimal digits.
-fn spelled(digits: &[u8], out: &mut [u8]) -> bool {
-    let Octets::Are(_) = hex_bytes(digits, out) else {
-        return false;
-    };
-    true
+// Some bytes are spelled, all by hexadecimal digits; or the words of what is wrong.
+fn spelled(digits: &[u8], out: &mut [u8], words: &'static [u8]) -> Result<(), &'static [u8]> {
+    match hex_bytes(digits, out) {
+        Some(_) => Ok(()),
+        None => Err(words),
+    }
 }
 
-fn number(byte: u8) -> u32 {
-    byte as u32
-}
-
-fn wide(byte: u8) -> usize
-    ensures { result ≤ 255 }
-{
-    byte as usize
-}
-
-fn params(header: &[u8; 8]) -> Params {
-    all_off(
-        number(header[0]),
-        header[1] == 1,
-        number(header[2]),
-        number(header[3]),
-        header[5] == 1,
-    )
+// A text has so many digits, or the words of what is wrong.
+fn enough(text: &[u8], digits: usize, words: &'static [u8]) -> Result<(), &'static [u8]> {
+    if text.len() < digits {
+        return Err(words);
+    }
+    Ok(())
 }
 
 // A luma or hiding byte above 1 is 4, as any size that there is none of.
-fn checked(header: &[u8; 8], p: Params) -> Params {
-    let mut q = p;
-    if 1 < header[1] {
-        q.log2 = 0;
-    }
-    if 1 < header[5] {
-        q.log2 = 0;
-    }
-    q
+fn params(header: &[u8; 8]) -> Params {
+    let log2 = if (header[1] > 1) | (header[5] > 1) {
+        0
+    } else {
+        u32::from(header[0])
+    };
+    all_off(
+        log2,
+        header[1] == 1,
+        u32::from(header[2]),
+        u32::from(header[3]),
+        header[5] == 1,
+    )
 }
 
 // The place of the payload's first bit, with an engine that has ended: a reader that is asked with it looks at all the rest and reads nothing.
@@ -101,16 +91,10 @@ fn refused_before_start(
     statistics: &mut [u8; 4],
     p: Params,
     block: &mut [i32; 1024],
-) -> u32 {
-    let r = residual_coding(payload, ended(), contexts, statistics, p, block);
-    match r {
-        Read::Block(_, _) => 0,
-        Read::Refused(n) => {
-            if n == 6 {
-                return 0;
-            }
-            n
-        }
+) -> Option<u32> {
+    match residual_coding(payload, ended(), contexts, statistics, p, block) {
+        Ok(_) | Err(6) => None,
+        Err(n) => Some(n),
     }
 }
 
@@ -138,10 +122,9 @@ fn read_from(
     p: Params,
     block: &mut [i32; 1024],
 ) -> io::Result<()> {
-    let r = residual_coding(payload, e, contexts, statistics, p, block);
-    match r {
-        Read::Block(found, next) => shown(out, found, next, payload, p, block),
-        Read::Refused(n) => words::refused(out, n),
+    match residual_coding(payload, e, contexts, statistics, p, block) {
+        Ok(b) => shown(out, b.found, b.state, payload, p, block),
+        Err(n) => words::refused(out, n),
     }
 }
 
@@ -154,15 +137,13 @@ fn read(
     let mut contexts = [0u8; CONTEXTS];
     let mut statistics = [0u8; 4];
     let mut block = [0i32; 1024];
-    let p = checked(header, params(header));
+    let p = params(header);
     init_contexts(&mut contexts, &mut statistics, values, header[4]);
-    let n = refused_before_start(payload, &mut contexts, &mut statistics, p, &mut block);
-    if n != 0 {
+    if let Some(n) = refused_before_start(payload, &mut contexts, &mut statistics, p, &mut block) {
         return words::refused(out, n);
     }
-    let s = start(payload);
-    match s {
-        State::Ready(e) => {
+    match start(payload) {
+        Ok(e) => {
             read_from(
                 out,
                 payload,
@@ -173,14 +154,58 @@ fn read(
                 &mut block,
             )
         }
-        State::Refused(m) => words::refused(out, m),
+        Err(m) => words::refused(out, m),
     }
 }
 
-fn payload_length(high: u8, low: u8) -> usize
-    ensures { result ≤ 65535 }
+// The payload's length, of two bytes, and where its digits end, which stand behind so many; or the words of what is wrong.
+fn payload_of(text: &[u8], front: usize, high: u8, low: u8) -> Result<(usize, usize), &'static [u8]>
+    requires { front ≤ 65536 }
+    ensures { IfOk result (λ r. r.0 ≤ 4096) }
 {
-    256 * wide(high) + wide(low)
+    let length = 256 * usize::from(high) + usize::from(low);
+    if MOST < length {
+        return Err(b"the payload length is over 4096");
+    }
+    let end = front + 2 * length;
+    enough(text, end, b"it ends before the payload does")?;
+    Ok((length, end))
+}
+
+// The frame of HEVC at the front of a text, part by part, and the payload's length; or the words of what is wrong.
+fn hevc_parts(
+    text: &[u8],
+    header: &mut [u8; 8],
+    values: &mut [u8; CONTEXTS],
+    bytes: &mut [u8; MOST],
+) -> Result<usize, &'static [u8]> {
+    enough(
+        text,
+        HEADER_DIGITS,
+        b"it ends within the first 8 bytes of a frame",
+    )?;
+    spelled(
+        part(text, 0, HEADER_DIGITS),
+        header,
+        b"the first 8 bytes are not lower-case hexadecimal",
+    )?;
+    let (length, end) = payload_of(text, FRONT_DIGITS, header[6], header[7])?;
+    spelled(
+        part(text, HEADER_DIGITS, FRONT_DIGITS),
+        values,
+        b"the initial values are not lower-case hexadecimal",
+    )?;
+    spelled(
+        part(text, FRONT_DIGITS, end),
+        bytes,
+        b"the payload is not lower-case hexadecimal",
+    )?;
+    Ok(length)
+}
+
+fn bad_input(out: &impl Print, words: &[u8]) -> io::Result<()> {
+    write::text(out, b"bad input: ")?;
+    write::line(out, words)
 }
 
 // The frame of HEVC that stands at the front of the text.
@@ -188,36 +213,10 @@ fn hevc_frame(out: &impl Print, text: &[u8]) -> io::Result<()> {
     let mut header = [0u8; 8];
     let mut values = [0u8; CONTEXTS];
     let mut bytes = [0u8; MOST];
-    if text.len() < HEADER_DIGITS {
-        return write::line(
-            out,
-            b"bad input: it ends within the first 8 bytes of a frame",
-        );
+    match hevc_parts(text, &mut header, &mut values, &mut bytes) {
+        Ok(length) => read(out, &header, &values, part(&bytes, 0, length)),
+        Err(words) => bad_input(out, words),
     }
-    if !spelled(part(text, 0, HEADER_DIGITS), &mut header) {
-        return write::line(
-            out,
-            b"bad input: the first 8 bytes are not lower-case hexadecimal",
-        );
-    }
-    let length = payload_length(header[6], header[7]);
-    if MOST < length {
-        return write::line(out, b"bad input: the payload length is over 4096");
-    }
-    let end = FRONT_DIGITS + 2 * length;
-    if text.len() < end {
-        return write::line(out, b"bad input: it ends before the payload does");
-    }
-    if !spelled(part(text, HEADER_DIGITS, FRONT_DIGITS), &mut values) {
-        return write::line(
-            out,
-            b"bad input: the initial values are not lower-case hexadecimal",
-        );
-    }
-    if !spelled(part(text, FRONT_DIGITS, end), &mut bytes) {
-        return write::line(out, b"bad input: the payload is not lower-case hexadecimal");
-    }
-    read(out, &header, &values, part(&bytes, 0, length))
 }
 
 // QP, length and pairs.
@@ -225,37 +224,37 @@ const OLD_FRONT: usize = 83;
 
 const OLD_FRONT_DIGITS: usize = 2 * OLD_FRONT;
 
+// The bytes of the frame of H.264 at the front of a text, and the payload's length; or the words of what is wrong.
+fn old_parts(text: &[u8], bytes: &mut [u8; OLD_FRONT + MOST]) -> Result<usize, &'static [u8]>
+    ensures { IfOk result (λ length. length ≤ 4096) }
+{
+    let mut front = [0u8; 3];
+    enough(
+        text,
+        OLD_FRONT_DIGITS,
+        b"it ends within QP, payload length and pairs",
+    )?;
+    spelled(
+        part(text, 0, 6),
+        &mut front,
+        b"QP and payload length are not lower-case hexadecimal",
+    )?;
+    let (length, end) = payload_of(text, OLD_FRONT_DIGITS, front[1], front[2])?;
+    spelled(
+        part(text, 0, end),
+        bytes,
+        b"the pairs or the payload are not lower-case hexadecimal",
+    )?;
+    Ok(length)
+}
+
 // The frame of H.264 that stands at the front of the text.
 fn old_frame(out: &impl Print, text: &[u8]) -> io::Result<()> {
-    let mut front = [0u8; 3];
     let mut bytes = [0u8; OLD_FRONT + MOST];
-    if text.len() < OLD_FRONT_DIGITS {
-        return write::line(
-            out,
-            b"bad input: it ends within QP, payload length and pairs",
-        );
+    match old_parts(text, &mut bytes) {
+        Ok(length) => h264::frame(out, part(&bytes, 0, OLD_FRONT + length), length),
+        Err(words) => bad_input(out, words),
     }
-    if !spelled(part(text, 0, 6), &mut front) {
-        return write::line(
-            out,
-            b"bad input: QP and payload length are not lower-case hexadecimal",
-        );
-    }
-    let length = payload_length(front[1], front[2]);
-    if MOST < length {
-        return write::line(out, b"bad input: the payload length is over 4096");
-    }
-    let end = OLD_FRONT_DIGITS + 2 * length;
-    if text.len() < end {
-        return write::line(out, b"bad input: it ends before the payload does");
-    }
-    if !spelled(part(text, 0, end), &mut bytes) {
-        return write::line(
-            out,
-            b"bad input: the pairs or the payload are not lower-case hexadecimal",
-        );
-    }
-    h264::frame(out, part(&bytes, 0, OLD_FRONT + length), length)
 }
 
 // Whether the text begins with the word.

@@ -40,11 +40,9 @@ fn mark(out: &impl Print, count: u32) -> io::Result<()> {
 fn map(out: &impl Print, counts: &[u32; 64], log2: u32) -> io::Result<()> {
     let n = side(log2);
     let end = subs(log2);
-    let mut s: usize = 0;
-    while s < end {
+    for s in 0..end {
         mark(out, counts[s])?;
-        s += 1;
-        if s % n == 0 {
+        if (s + 1) % n == 0 {
             write::end_line(out)?;
         }
     }

@@ -5,6 +5,7 @@ use hevc_residual::params::Rdpcm;
 use std::io;
 use text::write;
 
+// By number, as document 01 gives refusals; `morning` has some of the words too, and no crate that both may know (crates.txt) has refusals.
 fn reason(out: &impl Print, n: u32) -> io::Result<()> {
     match n {
         1 => write::text(out, b"payload under 2 bytes"),
@@ -70,6 +71,7 @@ pub fn size(out: &impl Print, log2: u32, luma: bool) -> io::Result<()> {
     }
 }
 
+// Words of this program alone: a Display would stand in hevc_residual, which prints nothing.
 fn rdpcm(out: &impl Print, r: Rdpcm) -> io::Result<()> {
     match r {
         Rdpcm::None => write::line(out, b"none"),

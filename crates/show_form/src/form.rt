@@ -81,11 +81,3 @@ pub fn level(block: &[i32; 1024], first: usize, column: usize) -> i32
     }
     block[first + column]
 }
-
-pub fn less(a: usize, b: usize) -> usize {
-    if b < a { a - b } else { 0 }
-}
-
-pub fn least(a: usize, b: usize) -> usize {
-    if a < b { a } else { b }
-}

@@ -4,7 +4,7 @@ ghost use Rattle.std.specs.Prelude.{◌≤◌};
 
 use grid_places::places::{first_of, side};
 use level_sizes::sizes::magnitude;
-use show_form::form::{Form, columns_that_fit, digits, form_of, least, less, level};
+use show_form::form::{Form, columns_that_fit, digits, form_of, level};
 use std::io;
 use text::lines::part;
 use text::write;
@@ -58,11 +58,8 @@ fn cell(out: &impl Print, v: i32, f: Form) -> io::Result<()> {
 
 // A row's or a column's number, right in a width.
 fn label(out: &impl Print, n: usize, width: usize) -> io::Result<()> {
-    if n < 10 {
-        spaces(out, less(width, 1))?;
-    } else {
-        spaces(out, less(width, 2))?;
-    }
+    let digits = if n < 10 { 1 } else { 2 };
+    spaces(out, width.saturating_sub(digits))?;
     write::count(out, n)
 }
 
@@ -79,10 +76,8 @@ fn head(out: &impl Print, column: usize, width: usize) -> io::Result<()> {
 }
 
 fn heads(out: &impl Print, from: usize, to: usize, width: usize) -> io::Result<()> {
-    let mut column = from;
-    while column < to {
+    for column in from..to {
         head(out, column, width)?;
-        column += 1;
     }
     write::end_line(out)
 }
@@ -90,11 +85,9 @@ fn heads(out: &impl Print, from: usize, to: usize, width: usize) -> io::Result<(
 // The line above a row of sub-blocks.
 fn rule(out: &impl Print, from: usize, to: usize, width: usize) -> io::Result<()> {
     spaces(out, 3)?;
-    let mut column = from;
-    while column < to {
+    for column in from..to {
         border(out, column, b"+")?;
         write::text(out, part(b"-----------", 0, width))?;
-        column += 1;
     }
     write::end_line(out)
 }
@@ -119,11 +112,9 @@ fn row_of(
     label(out, row, 2)?;
     write::text(out, b" ")?;
     let first = first_of(log2, row);
-    let mut column = from;
-    while column < to {
+    for column in from..to {
         border(out, column, b"|")?;
         cell(out, level(block, first, column), f)?;
-        column += 1;
     }
     write::end_line(out)
 }
@@ -149,13 +140,11 @@ fn panel(
     margin(out, f)?;
     heads(out, from, to, f.width)?;
     let n = side(log2);
-    let mut row: usize = 0;
-    while row < n {
+    for row in 0..n {
         if row % 4 == 0 {
             rule(out, from, to, f.width)?;
         }
         row_of(out, block, log2, row, from, to, f)?;
-        row += 1;
     }
     Ok(())
 }
@@ -165,10 +154,8 @@ pub fn levels(out: &impl Print, block: &[i32; 1024], log2: u32, greatest: u32) -
     let f = form_of(log2, greatest);
     let n = side(log2);
     let step = columns_that_fit(f.width);
-    let mut from: usize = 0;
-    while from < n {
-        panel(out, block, log2, from, least(from + step, n), f)?;
-        from += step;
+    for from in (0..n).step_by(step) {
+        panel(out, block, log2, from, n.min(from + step), f)?;
     }
     Ok(())
 }

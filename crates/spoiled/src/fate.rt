@@ -38,12 +38,10 @@ fn lower_line(line: &mut [u8], n: usize) -> usize
     ensures { (line.new ≡ lowered (take n line.old) ++ drop n line.old) × (result ≡ uppers (take n line.old)) }
 {
     let mut k: usize = 0;
-    let mut i: usize = 0;
-    while i < n {
+    for i in 0..n {
         let b = line[i];
         k += turned(b);
         line[i] = lower_digit(b);
-        i += 1;
     }
     k
 }

@@ -87,10 +87,8 @@ pub fn feed(
         book: 0,
         report: 0,
     };
-    let mut i: usize = 0;
-    while i < piece.len() {
-        s = step(piece[i], line, s, book, report);
-        i += 1;
+    for &b in piece {
+        s = step(b, line, s, book, report);
     }
     s
 }

@@ -24,22 +24,19 @@ pub fn count_line(t: Tally, f: Fate) -> Tally
 {
     if f.number != 0 {
         return Tally {
-            kept: t.kept,
-            lowered: t.lowered,
             dropped: t.dropped + 1,
+            ..t
         };
     }
     if f.turned != 0 {
         return Tally {
-            kept: t.kept,
             lowered: t.lowered + 1,
-            dropped: t.dropped,
+            ..t
         };
     }
     Tally {
         kept: t.kept + 1,
-        lowered: t.lowered,
-        dropped: t.dropped,
+        ..t
     }
 }
 

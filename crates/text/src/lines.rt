@@ -22,7 +22,7 @@ pub fn nothing_read() -> Window
     Window { from: 0, to: 0 }
 }
 
-// A line's first place and the place behind its last, with what is left behind it.
+// A line's first place and the place behind its last, with what is left behind it. Three answers, so neither an Option nor a Result.
 #[derive(Clone, Copy)]
 pub enum Line {
     Is(usize, usize, Window),
@@ -30,24 +30,13 @@ pub enum Line {
     TooLong,
 }
 
-fn least(a: usize, b: usize) -> usize
-    ensures { result ≡ min a b }
-{
-    if a < b { a } else { b }
-}
-
 // Moves what stands from a place on to the front, and answers how much it is.
 fn move_down(buf: &mut [u8], from: usize, to: usize) -> usize
     requires { (from ≤ to) × (to ≤ length buf.old) }
     ensures { result ≤ length buf.new }
 {
-    let n = to - from;
-    let mut i: usize = 0;
-    while i < n {
-        buf[i] = buf[from + i];
-        i += 1;
-    }
-    n
+    buf.copy_within(from..to, 0);
+    to - from
 }
 
 // Reads until the buffer is full or the input ends; answers how much was read.
@@ -79,8 +68,8 @@ fn refill(input: &mut impl Read, buf: &mut [u8], from: usize, to: usize) -> io::
 pub fn next(input: &mut impl Read, buf: &mut [u8], w: Window) -> io::Result<Line>
     ensures { IfOk result (Lies (length buf.new)) }
 {
-    let to = least(w.to, buf.len());
-    let from = least(w.from, to);
+    let to = w.to.min(buf.len());
+    let from = w.from.min(to);
     let end = find(buf, from, to, b'\n');
     if end < to {
         return Ok(Line::Is(from, end, Window { from: end + 1, to }));
@@ -117,7 +106,7 @@ pub fn next(input: &mut impl Read, buf: &mut [u8], w: Window) -> io::Result<Line
 pub fn part(buf: &[u8], from: usize, to: usize) -> &[u8]
     ensures { result.now ≡ slice from to buf.now }
 {
-    let end = least(to, buf.len());
-    let start = least(from, end);
+    let end = to.min(buf.len());
+    let start = from.min(end);
     &buf[start..end]
 }

@@ -34,10 +34,7 @@ pub fn count(out: &impl Print, n: usize) -> io::Result<()> {
 pub fn magnitude(n: i32) -> u64
     ensures { result ≡ nat_abs n }
 {
-    if n < 0 {
-        return (0 - n as i64) as u64;
-    }
-    n as u64
+    u64::from(n.unsigned_abs())
 }
 
 pub fn signed(out: &impl Print, n: i32) -> io::Result<()> {
@@ -84,10 +81,8 @@ pub fn hex(out: &impl Print, b: u8) -> io::Result<()> {
 }
 
 pub fn hex_bytes(out: &impl Print, s: &[u8]) -> io::Result<()> {
-    let mut i = 0;
-    while i < s.len() {
-        hex(out, s[i])?;
-        i += 1;
+    for &b in s {
+        hex(out, b)?;
     }
     Ok(())
 }

@@ -1,15 +1,11 @@
 -- Laws of a row of spelled bytes, as the code meets them. Assumes nothing.
-use Rattle.std.specs.Prelude.{ℕ, suc, ◌+◌, ◌*◌, ◌/◌, ◌≤◌, ◌<◌, ◌≡◌, refl, Bool, true, false, eqb, get_or, set}
+use Rattle.std.specs.Prelude.{ℕ, suc, ◌+◌, ◌*◌, ◌/◌, ◌≤◌, ◌<◌, ◌≡◌, refl, Bool, true, false, eqb, get_or, set, Some, None, Option}
 use Rattle.std.proofs.Common.{arith, add-one, ◌∙◌, length-drop, drop-cons, take_all, take_at, take-suc-set}
 use Rattle.std.proofs.Math.Path.{sym, ap}
 use mathlib.Core.List.{List, [], ◌∷◌, ◌++◌, append_assoc, append-nil}
 use Rattle.std.proofs.Math.ListN.{length, take, drop, length-set, take-append-drop}
 use Rattle.std.proofs.Math.Seq.{drop-drop, length-take-le, drop-set-lt}
 use borrow.Author.Tests.{eq-eqb, ne_eqb}
-use Rattle.text_fields.specs.declared.fields.Octet.{Octet}
-use Rattle.text_fields.specs.declared.fields.Octet.TheVariants as ofOctet
-use Rattle.text_fields.specs.declared.fields.Octets.{Octets}
-use Rattle.text_fields.specs.declared.fields.Octets.TheVariants as ofOctets
 use Rattle.text_fields.specs.Spelled.{octet_of, octet_then, octets_of, octets_over, is_dash, octets_read, octets_answer}
 
 -- ---- a dash
@@ -27,19 +23,19 @@ dash_first (b ∷ c ∷ s) h = absurd (omega arith)
 
 -- the answer for n bytes, where the test for a dash gave t
 module _ (s : List ℕ) (n : ℕ) (t : Bool) (e : t ≡ is_dash s) where
-  pub read_dash : t ≡ true → ofOctets.Are n ≡ octets_read s n
+  pub read_dash : t ≡ true → Some n ≡ octets_read s n
   unfolding octets_read
   read_dash h = rw (sym e ∙ h)
 
-  pub read_whole : t ≡ false → length s ≡ 2 * n → ofOctets.Are n ≡ octets_read s n
+  pub read_whole : t ≡ false → length s ≡ 2 * n → Some n ≡ octets_read s n
   unfolding octets_read
   read_whole h k = rw (sym e ∙ h, eq-eqb (length s) (2 * n) k)
 
-  pub read_less : t ≡ false → (length s ≡ 2 * n → ⊥) → ofOctets.Missing ≡ octets_read s n
+  pub read_less : t ≡ false → (length s ≡ 2 * n → ⊥) → None ≡ octets_read s n
   unfolding octets_read
   read_less h k = rw (sym e ∙ h, ne_eqb (length s) (2 * n) k)
 
-pub read_answer : (s : List ℕ) (room n : ℕ) (r : Octets) → n ≡ length (take room (octets_of s)) → r ≡ octets_read s n → r ≡ octets_answer s room
+pub read_answer : (s : List ℕ) (room n : ℕ) (r : Option ℕ) → n ≡ length (take room (octets_of s)) → r ≡ octets_read s n → r ≡ octets_answer s room
 unfolding octets_answer
 read_answer s room n r e h = h ∙ ap (octets_read s) e
 
@@ -78,13 +74,13 @@ module _ (s first out : List ℕ) (i : ℕ) (w : Writing s first out i) where
   unfolding octets_of
   next h = rw (pair h)
 
-  pub writing_more : (b : ℕ) (o : Octet) → i < length out → 2 * i + 1 < length s
-      → o ≡ octet_of (get_or s (2 * i) 0) (get_or s (2 * i + 1) 0) → o ≡ ofOctet.Is b
+  pub writing_more : (b : ℕ) (o : Option ℕ) → i < length out → 2 * i + 1 < length s
+      → o ≡ octet_of (get_or s (2 * i) 0) (get_or s (2 * i + 1) 0) → o ≡ Some b
       → Writing s first (set out i b) (i + 1)
   unfolding octet_then
   writing_more b o h k e q =
       let rest = octets_of (drop (2 * (i + 1)) s) in
-      let n : octets_of (drop (2 * i) s) ≡ b ∷ rest = next k ∙ ap (λ (x : Octet). octet_then x rest) (sym e ∙ q) in
+      let n : octets_of (drop (2 * i) s) ≡ b ∷ rest = next k ∙ ap (λ (x : Option ℕ). octet_then x rest) (sym e ∙ q) in
       let f : take (i + 1) (set out i b) ≡ take i out ++ (b ∷ []) = rw (add-one i) (take-suc-set out i b h) in
       record {
         before =
@@ -123,7 +119,7 @@ module _ (s first out : List ℕ) (i : ℕ) (w : Writing s first out i) where
   pub writing_ended : length s / 2 ≤ i → Written s first out i
   writing_ended h = done (none_follows (no_pair (drop (2 * i) s) (omega (arith, length-drop (2 * i) s))))
 
-  pub writing_stopped : (o : Octet) → 2 * i + 1 < length s → o ≡ octet_of (get_or s (2 * i) 0) (get_or s (2 * i + 1) 0) → o ≡ ofOctet.Missing
+  pub writing_stopped : (o : Option ℕ) → 2 * i + 1 < length s → o ≡ octet_of (get_or s (2 * i) 0) (get_or s (2 * i + 1) 0) → o ≡ None
       → Written s first out i
   unfolding octet_then
-  writing_stopped o k e q = done (none_follows (next k ∙ ap (λ (x : Octet). octet_then x (octets_of (drop (2 * (i + 1)) s))) (sym e ∙ q)))
+  writing_stopped o k e q = done (none_follows (next k ∙ ap (λ (x : Option ℕ). octet_then x (octets_of (drop (2 * (i + 1)) s))) (sym e ∙ q)))

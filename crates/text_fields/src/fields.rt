@@ -10,14 +10,12 @@ fn field_start(s: &[u8], k: usize) -> usize
     ensures { (result ≤ length s.now) × (drop result s.now ≡ from_field s.now k) }
 {
     let mut from: usize = 0;
-    let mut left = k;
-    while 0 < left {
+    for _left in (0..k).rev() {
         let space = find(s, from, s.len(), b' ');
         if s.len() <= space {
             return s.len();
         }
         from = space + 1;
-        left -= 1;
     }
     from
 }
@@ -31,36 +29,27 @@ pub fn field(s: &[u8], k: usize) -> &[u8]
     &s[from..to]
 }
 
-#[derive(Clone, Copy)]
-pub enum Number {
-    Is(u64),
-    Missing,
-}
-
 // A field of decimal digits. Behind a number over 10^18 no further digit is taken.
-pub fn decimal(s: &[u8]) -> Number
+pub fn decimal(s: &[u8]) -> Option<u64>
     ensures { result ≡ decimal_of s.now }
 {
     if s.len() == 0 {
-        return Number::Missing;
+        return None;
     }
     let mut v: u64 = 0;
-    let mut i = 0;
-    while i < s.len() {
-        let b = s[i];
+    for &b in s {
         if b < b'0' {
-            return Number::Missing;
+            return None;
         }
         if b'9' < b {
-            return Number::Missing;
+            return None;
         }
         if 1000000000000000000 < v {
-            return Number::Missing;
+            return None;
         }
         v = v * 10 + digit_value(b);
-        i += 1;
     }
-    Number::Is(v)
+    Some(v)
 }
 
 fn digit_value(b: u8) -> u64
@@ -68,22 +57,4 @@ fn digit_value(b: u8) -> u64
     ensures { result ≡ b - 48 }
 {
     (b - b'0') as u64
-}
-
-#[derive(Clone, Copy)]
-pub enum Digit {
-    Is(u8),
-    Missing,
-}
-
-#[derive(Clone, Copy)]
-pub enum Octet {
-    Is(u8),
-    Missing,
-}
-
-#[derive(Clone, Copy)]
-pub enum Octets {
-    Are(usize),
-    Missing,
 }

@@ -1,20 +1,18 @@
 -- The shapes as their code reads them: one step, and what is left to run in a loop. Assumes nothing.
-use Prim.Native.Nat.{ℕ, zero, suc, ◌+◌, ◌-◌, ◌/◌, ◌^◌, ◌≤◌, ◌<◌}
+use Prim.Native.Nat.{ℕ, suc, ◌+◌, ◌-◌, ◌/◌, ◌^◌, ◌≤◌}
 use Rattle.std.specs.Prelude.{◌≡◌, Bool, List, length, get_or, set}
 use Rattle.std.proofs.Math.Path.{refl, ap}
 use Rattle.std.proofs.Common.{sym, subst, ◌∙◌, arith, add-one}
 use Rattle.std.proofs.Math.Bool.{true, false}
 use Rattle.bins.specs.declared.state.Interval.{Interval}
 use Rattle.bins.specs.declared.state.Refusal.{Refusal}
-use Rattle.bins.specs.declared.state.Step.{Step}
-use Rattle.bins.specs.declared.state.Step.TheVariants as step
 use Rattle.bins.specs.Engine.{bit_no}
-use Rattle.bins.specs.Syn.{Syn, done, bin, bypass, ◌>>=◌, Took, took, refused, Out, onward, run}
-use Rattle.bins.specs.Sources.{Cursor, cursor, with_contexts, by_code, bin_from, context_from, bypass_from, Readable, step_of, stopped}
+use Rattle.bins.specs.Syn.{Syn, done, bin, bypass, ◌>>=◌, Took, took, refused, Out, run}
+use Rattle.bins.specs.Sources.{cursor, with_contexts, by_code, bin_from, context_from, bypass_from, Readable, step_of, stopped, Step, got, refused_at}
 use Rattle.bins.specs.Laws.{RefusedBy, kept_ok, bind_ok, bind_no, run_bin, run_bin_no, run_bypass, run_bypass_no}
-use Rattle.bins.specs.CodeLaws.{Packed, Ready, code_keeps}
+use Rattle.bins.specs.CodeLaws.{Ready, code_keeps}
 use Rattle.trees.specs.Counters as counters
-use Rattle.trees.specs.Agree.{Reads, from, Says, SaysFlag, readable_on, reads_on, says_ok, says_no, flag_ok, flag_no_lem}
+use Rattle.trees.specs.Agree.{Reads, from, SaysFlag, readable_on, reads_on, flag_ok, flag_no_lem}
 use Rattle.tree_shapes.specs.Plain.{bin_p, bypass_p, ones_p, count_p, prefix_p, bin_any, bypass_any}
 
 pub bit_zero : (b : Bool) → bit_no b ≡ 0 → b ≡ false
@@ -46,7 +44,7 @@ module _ (s : Bool) (l : List ℕ) (k : ℕ) (x : Interval) (cs : List ℕ) wher
     where
       go : (t : Took Interval) → bin_from s l k (get_or cs k 0) x ≡ t → SaysFlag r (set cs k c) (from s l (bin_p k) x cs)
       go (took b y) e =
-          let f : r ≡ step.Bin (bit_no b) y = p ∙ ap (step_of x) e in
+          let f : r ≡ got (bit_no b) y = p ∙ ap (step_of x) e in
           let d : set cs k (context_from s l (get_or cs k 0) x) ≡ set cs k c = ap (set cs k) (sym q) in
           subst (λ (z : Step). SaysFlag z (set cs k c) (from s l (bin_p k) x cs)) (sym f) (
             b,
@@ -55,7 +53,7 @@ module _ (s : Bool) (l : List ℕ) (k : ℕ) (x : Interval) (cs : List ℕ) wher
                 ∙ run_done ℕ s l b y (set cs k (context_from s l (get_or cs k 0) x)) ∙ ap (λ u. Out.ok b (cursor y u)) d,
           )
       go (refused n) e =
-          let f : r ≡ step.Refused n x = p ∙ ap (step_of x) e in
+          let f : r ≡ stopped (refused_at n x) = p ∙ ap (step_of x) e in
           subst (λ (z : Step). SaysFlag z (set cs k c) (from s l (bin_p k) x cs)) (sym f)
           (cs, run_bin_no (by_code s l) k (λ (t : ℕ). false) done (cursor x cs) n (bin_refused n e))
 
@@ -87,7 +85,7 @@ flag_at s l x ds r es n m q h = subst (λ (k : ℕ). SaysFlag r es (from s l (bi
 
 -- as many contexts as before
 pub flag_long : (s : Bool) (l : List ℕ) (x : Interval) (ds : List ℕ) (r : Step) (es : List ℕ) (n v : ℕ) (z : Interval)
-    → SaysFlag r es (from s l (bin_p n) x ds) → r ≡ step.Bin v z → Reads s l x ds → length es ≡ length ds
+    → SaysFlag r es (from s l (bin_p n) x ds) → r ≡ got v z → Reads s l x ds → length es ≡ length ds
 flag_long s l x ds r es n v z h q p =
     let f = flag_ok r v z es _ h q in
     (kept_ok (by_code s l) (Ready s l (length ds)) (code_keeps s l (length ds)) (bin_p n) (cursor x ds) f.0 (cursor z es) f.2
@@ -137,19 +135,20 @@ module _ {T : ℕ → ℕ → Syn ℕ ℕ} {one : ℕ → Syn ℕ Bool} (T-count
         h.left ∙ ap (λ n. from s l (T n g) y ds) m ∙ ap (λ t. from s l t y ds) (T-counts.more (most - (g + 1)) g)
 
     -- at the greatest count
-    pub count_most : g ≡ most → from s l (T most 0) x cs ≡ Out.ok g (cursor y ds)
+    pub count_most : g ≡ most → from s l (T most 0) x cs ≡ Out.ok most (cursor y ds)
     count_most q =
         let m : most - g ≡ 0 = omega arith in
         h.left ∙ ap (λ n. from s l (T n g) y ds) m ∙ ap (λ t. from s l t y ds) (T-counts.none g) ∙ run_done ℕ s l g y ds
+        ∙ ap (λ n. Out.ok n (cursor y ds)) q
 
     -- r is what the step answered, es the contexts behind it
     module _ (k : g ≡ most → ⊥) (r : Step) (es : List ℕ) (e : SaysFlag r es (from s l (one g) y ds)) where
-      pub count_refused : (n : Refusal) → r ≡ stopped n → Says r es (from s l (T most 0) x cs)
+      pub count_refused : (n : Refusal) → r ≡ stopped n → RefusedBy n (from s l (T most 0) x cs)
       count_refused n q =
           let f = bind_no (by_code s l) (one g) (next (most - (g + 1))) (cursor y ds) n (flag_no_lem r n es _ e q) in
-          subst (λ (z : Step). Says z es (from s l (T most 0) x cs)) (sym q) (f.0, next_left k ∙ f.1)
+          (f.0, next_left k ∙ f.1)
 
-      pub count_zero : (v : ℕ) (z : Interval) → r ≡ step.Bin v z → v ≡ 0 → from s l (T most 0) x cs ≡ Out.ok g (cursor z es)
+      pub count_zero : (v : ℕ) (z : Interval) → r ≡ got v z → v ≡ 0 → from s l (T most 0) x cs ≡ Out.ok g (cursor z es)
       unfolding next
       count_zero v z q u =
           let f = flag_ok r v z es _ e q in
@@ -157,7 +156,7 @@ module _ {T : ℕ → ℕ → Syn ℕ ℕ} {one : ℕ → Syn ℕ Bool} (T-count
           next_left k ∙ bind_ok (by_code s l) (one g) (next (most - (g + 1))) (cursor y ds) f.0 (cursor z es) f.2
           ∙ ap (λ b. from s l (next (most - (g + 1)) b) z es) d ∙ run_done ℕ s l g z es
 
-      pub count_one : (v : ℕ) (z : Interval) → r ≡ step.Bin v z → (v ≡ 0 → ⊥) → length es ≡ length ds → Counting x cs z es (g + 1)
+      pub count_one : (v : ℕ) (z : Interval) → r ≡ got v z → (v ≡ 0 → ⊥) → length es ≡ length ds → Counting x cs z es (g + 1)
       unfolding next
       count_one v z q u long =
           let f = flag_ok r v z es _ e q in

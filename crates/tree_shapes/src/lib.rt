@@ -9,7 +9,7 @@ ghost use Rattle.trees.specs.Agree.{Reads, from, Says, SaysFlag};
 ghost use Rattle.tree_shapes.specs.Plain.{bin_p, ones_p, count_p};
 
 use bin_steps::steps::{decode_bin, decode_bypass};
-use bins::state::{Interval, Step};
+use bins::state::{Interval, Step, Taken};
 
 // A bin with the context of a number, of however many are lent.
 pub fn context_bin(
@@ -41,24 +41,19 @@ pub fn count(
     ensures { Says result contexts.new (from list bytes.now (count_p (first_then first later) most 0) x contexts.old) }
 {
     let mut y = x;
-    let mut g: u32 = 0;
     let mut number = first;
-    let group = loop {
-        if g == most {
-            break g;
-        }
-        let s = context_bin(list, table, contexts, number, bytes, y);
-        let Step::Bin(b, next) = s else {
-            return s;
-        };
-        y = next;
+    for g in 0..most {
+        let Taken { value: b, next } = context_bin(list, table, contexts, number, bytes, y)?;
         if b == 0 {
-            break g;
+            return Ok(Taken { value: g, next });
         }
-        g += 1;
+        y = next;
         number = later;
-    };
-    Step::Bin(group, y)
+    }
+    Ok(Taken {
+        value: most,
+        next: y,
+    })
 }
 
 // The same with bypass bins.
@@ -67,20 +62,15 @@ pub fn ones(list: bool, most: u32, bytes: &[u8], x: Interval) -> Step
     ensures { (contexts : List ℕ) → Says result contexts (from list bytes.now (ones_p most 0) x contexts) }
 {
     let mut y = x;
-    let mut g: u32 = 0;
-    let count = loop {
-        if g == most {
-            break g;
-        }
-        let s = decode_bypass(list, bytes, y);
-        let Step::Bin(b, next) = s else {
-            return s;
-        };
-        y = next;
+    for g in 0..most {
+        let Taken { value: b, next } = decode_bypass(list, bytes, y)?;
         if b == 0 {
-            break g;
+            return Ok(Taken { value: g, next });
         }
-        g += 1;
-    };
-    Step::Bin(count, y)
+        y = next;
+    }
+    Ok(Taken {
+        value: most,
+        next: y,
+    })
 }

@@ -4,7 +4,6 @@
 
 use bins::state::Engine;
 use bins::tags::CONTEXTS;
-use cabac::answers::State;
 use cabac_engine::engine::start;
 use hevc_decoder::decoder::block_through;
 use hevc_reader::entries::residual_coding;
@@ -21,16 +20,17 @@ fn params() -> Params {
 
 fn show(out: &impl Print, r: Read) -> io::Result<()> {
     match r {
-        Read::Block(f, e) => {
+        Ok(b) => {
+            let f = b.found;
             write::text(out, b"extents")?;
             write::spaced(out, f.column)?;
             write::spaced(out, f.row)?;
             write::text(out, b", greatest")?;
             write::spaced(out, f.greatest)?;
             write::text(out, b", position")?;
-            write::spaced_count(out, e.position.0)
+            write::spaced_count(out, b.state.position.0)
         }
-        Read::Refused(n) => {
+        Err(n) => {
             write::text(out, b"number")?;
             write::spaced(out, n)
         }
@@ -48,8 +48,8 @@ fn judge(out: &impl Print, same: bool) -> io::Result<()> {
 // The state behind the block; a refusal leaves the one handed in.
 fn behind(r: Read, e: Engine) -> Engine {
     match r {
-        Read::Block(_, next) => next,
-        Read::Refused(_) => e,
+        Ok(b) => b.state,
+        Err(_) => e,
     }
 }
 
@@ -84,7 +84,7 @@ fn both(
 }
 
 fn run(out: &impl Print, payload: &[u8]) -> io::Result<()> {
-    let State::Ready(e) = start(payload) else {
+    let Ok(e) = start(payload) else {
         return write::line(out, b"no start");
     };
     let mut contexts = [64u8; CONTEXTS];

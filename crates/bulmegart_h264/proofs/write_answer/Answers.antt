@@ -1,8 +1,8 @@
 use mathlib.Core.Path.{refl}
 use Rattle.bulmegart_h264.proofs.write_answer.Goals as goal
 
-pub returns-in-List : goal.returns-in-List
-returns-in-List c = rw c.in-List.is refl
+pub returns-in-Ok : goal.returns-in-Ok
+returns-in-Ok c = rw c.in-Ok.is refl
 
-pub returns-in-Refused : goal.returns-in-Refused
-returns-in-Refused c = rw c.in-Refused.is refl
+pub returns-in-Err : goal.returns-in-Err
+returns-in-Err c = rw c.in-Err.is refl

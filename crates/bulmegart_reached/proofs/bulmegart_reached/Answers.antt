@@ -10,4 +10,4 @@ pub returns : goal.returns
 returns c =
     let a = c.args in
     handed_yes a.payload.now a.state a.contexts.now a.statistics.now a.params a.levels.now c.block_handed-n.result c.block_handed-n.ensures c.if-n-ne0.false
-    c.engine_of.result c.params_of.result c.reached-r.result c.state_of.result c.engine_of.ensures c.params_of.ensures c.reached-r.ensures c.state_of.ensures
+    c.into.result c.into-2.result c.reached-r.result c.into-3.result c.into.ensures c.into-2.ensures c.reached-r.ensures c.into-3.ensures

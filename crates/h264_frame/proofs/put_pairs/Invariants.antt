@@ -1,10 +1,6 @@
-use Prim.Native.Nat.{◌-◌}
 use Rattle.h264_frame.specs.FrameLaws.{Paired}
 use Rattle.h264_frame.proofs.put_pairs.Given as goal
 
 -- `put_pairs` meets its contract. Assumes nothing.
 abbrev pub invariant-loop-i : goal.invariant-loop-i
-invariant-loop-i l = Paired l.bytes l.i l.fresh
-
-abbrev pub decreases-loop-i : goal.decreases-loop-i
-decreases-loop-i l = 80 - l.i
+invariant-loop-i l = Paired l.bytes l.i l.out

@@ -1,14 +1,13 @@
+use mir.Facts.{to_z-of_z}
+use mir.Syntax.{w8, w32}
+use mir.Val.{SFits}
+use mathlib.Core.Path.{◌∙◌}
 use native.Mathlib.Omega.{arith}
-use Prim.Native.Nat.{◌-◌}
-use Rattle.level_sizes.specs.SignLaws.{minus_fits}
-use Rattle.h264_frame.specs.FrameLaws.{byte_plus, byte_minus}
+use Rattle.h264_frame.specs.FrameLaws.{byte_is}
 use Rattle.h264_frame.proofs.signed.Goals as goal
 
-pub returns-then-b-lt128 : goal.returns-then-b-lt128
-returns-then-b-lt128 c = byte_plus c.args.b (omega (arith, c.if-b-lt128.true))
-
-pub overflow_sub-result-2 : goal.overflow_sub-result-2
-overflow_sub-result-2 c = minus_fits (256 - c.args.b) (omega arith)
-
 pub returns : goal.returns
-returns c = byte_minus c.args.b (omega (arith, c.if-b-lt128.false))
+returns c =
+    let few : SFits w8 c.cast_signed.result = record { sfits = c.cast_signed.type_inv } in
+    let wide : SFits w32 c.from.result = record { sfits = c.from.type_inv } in
+    to_z-of_z wide ∙ c.from.ensures ∙ to_z-of_z few ∙ c.cast_signed.ensures ∙ byte_is c.args.b (omega arith)

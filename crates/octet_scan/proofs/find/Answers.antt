@@ -28,10 +28,10 @@ nowhere s i to b h k =
     rw (drop_of_length-le (take to s) n) (omega arith)
 
 pub returns-then-s-i-clause-place : goal.returns-then-s-i-clause-place
-returns-then-s-i-clause-place c = here c.args.s.now c.loop-i.i c.args.to c.args.b (omega arith) (omega arith) c.if-s-i.true ∙ c.loop-i.invariant.1.1
+returns-then-s-i-clause-place c = here c.args.s.now c.loop-i.i c.args.to c.args.b (omega arith) (omega arith) c.if-s-i.true ∙ c.loop-i.invariant
 
 pub loop-i-preserved : goal.loop-i-preserved
-loop-i-preserved c = (omega arith, (omega arith, further c.args.s.now c.loop-i.i c.args.to c.args.b (omega arith) (omega arith) c.if-s-i.false ∙ c.loop-i.invariant.1.1))
+loop-i-preserved c = further c.args.s.now c.loop-i.i c.args.to c.args.b (omega arith) (omega arith) c.if-s-i.false ∙ c.loop-i.invariant
 
 pub returns-clause-place : goal.returns-clause-place
-returns-clause-place c = omega (arith, nowhere c.args.s.now c.loop-i.i c.args.to c.args.b (omega arith) (omega arith), c.loop-i.invariant.1.1)
+returns-clause-place c = omega (arith, nowhere c.args.s.now c.loop-i.i c.args.to c.args.b (omega arith) (omega arith))

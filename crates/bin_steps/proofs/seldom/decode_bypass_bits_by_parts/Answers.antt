@@ -9,8 +9,8 @@ bypass_bits-requires c = let a = c.args in let x : Interval = record { range = a
 pub returns-then-list : goal.returns-then-list
 returns-then-list c = let a = c.args in let x : Interval = record { range = a.range; offset = a.offset; position = a.position } in bits_listed a.bytes.now x a.list a.n _ c.if-list.true c.bypass_bits.ensures
 
-pub bypass_bits-t-requires : goal.bypass_bits-t-requires
-bypass_bits-t-requires c = let a = c.args in let x : Interval = record { range = a.range; offset = a.offset; position = a.position } in let h = c.requires in (readable_goes a.bytes.now x a.list c.if-list.false h.0, h.1)
+pub bypass_bits-requires-2 : goal.bypass_bits-requires-2
+bypass_bits-requires-2 c = let a = c.args in let x : Interval = record { range = a.range; offset = a.offset; position = a.position } in let h = c.requires in (readable_goes a.bytes.now x a.list c.if-list.false h.0, h.1)
 
 pub returns : goal.returns
-returns c = let a = c.args in let x : Interval = record { range = a.range; offset = a.offset; position = a.position } in bits_taken a.bytes.now x a.list a.n _ _ c.if-list.false c.bypass_bits-t.ensures c.step_of.ensures
+returns c = let a = c.args in let x : Interval = record { range = a.range; offset = a.offset; position = a.position } in bits_taken a.bytes.now x a.list a.n _ c.if-list.false c.bypass_bits-2.ensures

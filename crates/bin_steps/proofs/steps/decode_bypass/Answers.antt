@@ -9,8 +9,8 @@ bin-requires c = let a = c.args in (readable_list a.bytes.now a.x a.list c.if-li
 pub returns-then-list : goal.returns-then-list
 returns-then-list c = let a = c.args in bypass_listed a.bytes.now a.x a.list _ c.if-list.true c.bin.ensures
 
-pub bypass_one-t-requires : goal.bypass_one-t-requires
-bypass_one-t-requires c = let a = c.args in readable_goes a.bytes.now a.x a.list c.if-list.false c.requires
+pub bypass_one-requires : goal.bypass_one-requires
+bypass_one-requires c = let a = c.args in readable_goes a.bytes.now a.x a.list c.if-list.false c.requires
 
 pub returns : goal.returns
-returns c = let a = c.args in bypass_taken a.bytes.now a.x a.list _ _ c.if-list.false c.requires c.bypass_one-t.ensures c.step_of.ensures
+returns c = let a = c.args in bypass_taken a.bytes.now a.x a.list _ c.if-list.false c.requires c.bypass_one.ensures

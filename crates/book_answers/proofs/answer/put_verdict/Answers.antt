@@ -9,7 +9,7 @@ returns-in-Ok c =
     let a = c.args in
     (one_piece _ (take a.at a.out.now) _ _ c.put_ok.ensures.0 (ok_words_lem a.v _ _ c.in-Ok.is), omega arith)
 
-pub returns-in-No : goal.returns-in-No
-returns-in-No c =
+pub returns-in-Err : goal.returns-in-Err
+returns-in-Err c =
     let a = c.args in
-    (one_piece _ (take a.at a.out.now) _ _ c.put_no.ensures.0 (no_words_lem a.v _ c.in-No.is), omega arith)
+    (one_piece _ (take a.at a.out.now) _ _ c.put_no.ensures.0 (no_words_lem a.v _ c.in-Err.is), omega arith)

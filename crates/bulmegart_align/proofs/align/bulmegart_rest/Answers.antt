@@ -9,4 +9,4 @@ pub overflow_sub-result : goal.overflow_sub-result
 overflow_sub-result c = let a = c.args in rest_fits a.payload.now _ _ _ c.rest-length.ensures refl
 
 pub returns : goal.returns
-returns c = let a = c.args in rest_yes a.payload.now a.state _ _ _ c.byte_align.result _ _ c.state_handed-n.ensures c.if-n-ne0.false c.engine_of-e.ensures c.rest-length.ensures refl c.byte_align.ensures c.state_number.ensures
+returns c = let a = c.args in rest_yes a.payload.now a.state _ _ _ c.byte_align.result _ _ c.state_handed-n.ensures c.if-n-ne0.false c.into-e.ensures c.rest-length.ensures refl c.byte_align.ensures c.state_number.ensures

@@ -8,4 +8,4 @@ pub returns-then-n-ne0 : goal.returns-then-n-ne0
 returns-then-n-ne0 c = let a = c.args in behind_no (decision_given a.context a.state) _ _ _ _ c.state_handed-n.ensures c.if-n-ne0.true c.decision_answer.ensures
 
 pub returns : goal.returns
-returns c = let a = c.args in behind_yes (decision_given a.context a.state) (λ (e : Engine). entries.decision a.payload.now e a.context) _ _ _ _ _ _ c.state_handed-n.ensures c.if-n-ne0.false c.decision_answer-2.ensures c.decode_bin.ensures c.engine_of.ensures
+returns c = let a = c.args in behind_yes (decision_given a.context a.state) (λ (e : Engine). entries.decision a.payload.now e a.context) _ _ _ _ _ _ c.state_handed-n.ensures c.if-n-ne0.false c.decision_answer-2.ensures c.decode_bin.ensures c.into.ensures

@@ -8,4 +8,4 @@ pub returns-then-n-ne0 : goal.returns-then-n-ne0
 returns-then-n-ne0 c = let a = c.args in behind_no (bins_given a.state) _ _ _ _ c.state_handed-n.ensures c.if-n-ne0.true c.bins_answer.ensures
 
 pub returns : goal.returns
-returns c = let a = c.args in behind_yes (bins_given a.state) (λ (e : Engine). entries.terminate a.payload.now e) _ _ _ _ _ _ c.state_handed-n.ensures c.if-n-ne0.false c.bins_answer-2.ensures c.decode_terminate.ensures c.engine_of.ensures
+returns c = let a = c.args in behind_yes (bins_given a.state) (λ (e : Engine). entries.terminate a.payload.now e) _ _ _ _ _ _ c.state_handed-n.ensures c.if-n-ne0.false c.bins_answer-2.ensures c.decode_terminate.ensures c.into.ensures

@@ -1,8 +1,8 @@
 use mathlib.Core.Path.{refl}
 use Rattle.bulmegart_bins.proofs.decode.decision_answer.Goals as goal
 
-pub returns-in-Bin : goal.returns-in-Bin
-returns-in-Bin c = rw (c.in-Bin.is, c.flag_byte.ensures, c.state_of.ensures) refl
+pub returns-in-Ok : goal.returns-in-Ok
+returns-in-Ok c = rw (c.in-Ok.is, c.flag_byte.ensures, c.into.ensures) refl
 
-pub returns-in-Refused : goal.returns-in-Refused
-returns-in-Refused c = rw c.in-Refused.is refl
+pub returns-in-Err : goal.returns-in-Err
+returns-in-Err c = rw c.in-Err.is refl

@@ -8,4 +8,4 @@ pub returns-then-n-ne0 : goal.returns-then-n-ne0
 returns-then-n-ne0 c = let a = c.args in behind_no (state_given a.state) _ _ _ _ c.state_handed-n.ensures c.if-n-ne0.true c.state_answer.ensures
 
 pub returns : goal.returns
-returns c = let a = c.args in behind_yes (state_given a.state) (λ (e : Engine). entries.restart a.payload.now e) _ _ _ _ _ _ c.state_handed-n.ensures c.if-n-ne0.false c.state_answer-2.ensures c.restart.ensures c.engine_of.ensures
+returns c = let a = c.args in behind_yes (state_given a.state) (λ (e : Engine). entries.restart a.payload.now e) _ _ _ _ _ _ c.state_handed-n.ensures c.if-n-ne0.false c.state_answer-2.ensures c.restart.ensures c.into.ensures

@@ -10,4 +10,4 @@ pub returns : goal.returns
 returns c =
     let a = c.args in
     block_yes a.form a.payload.now a.state a.contexts.now a.statistics.now a.params a.levels.now a.counts.now a.sums.now a.whole _ _ c.read_kept-r.result _ _ c.read_kept-r.new.contexts c.read_kept-r.new.stats c.read_kept-r.new.levels c.read_kept-r.new.counts c.read_kept-r.new.sums
-    c.block_handed-n.ensures c.if-n-ne0.false c.engine_of.ensures c.params_of.ensures c.read_kept-r.ensures.0 c.block_answer-block.ensures
+    c.block_handed-n.ensures c.if-n-ne0.false c.into.ensures c.into-2.ensures c.read_kept-r.ensures.0 c.block_answer-block.ensures

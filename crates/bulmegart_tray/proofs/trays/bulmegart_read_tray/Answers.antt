@@ -20,4 +20,4 @@ returns c =
     c.read_tray-t.result _ _ _ _ _ _ a.records.now _
     c.if-records-eq0.false
     c.state_handed-n.ensures c.if-n-ne0.false
-    c.engine_of.ensures c.read_tray-t.ensures c.tray_answer.ensures
+    c.into.ensures c.read_tray-t.ensures c.tray_answer.ensures

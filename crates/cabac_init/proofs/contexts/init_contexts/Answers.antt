@@ -1,5 +1,4 @@
 use native.Mathlib.Omega.{arith}
-use Prim.Native.Nat.{◌-◌}
 use mathlib.Core.Path.{refl}
 use lib.ListN.{length}
 use borrow.Author.Tests.{eq-eqb, ne_eqb}
@@ -13,26 +12,11 @@ unfolding values_refusal contexts_after statistics_after
 returns-then-values-ne-CONTEXTS c = (rw (ne_eqb _ _ c.if-values-ne-CONTEXTS.true), refl, refl)
 
 pub loop-i-init : goal.loop-i-init
-loop-i-init c = record { few = omega arith; many = refl; made = refl }
-
-pub bounds-values-i : goal.bounds-values-i
-bounds-values-i c = omega arith
-
-pub init-requires : goal.init-requires
-init-requires c = tt
-
-pub bounds-fresh-i : goal.bounds-fresh-i
-bounds-fresh-i c = omega arith
-
-pub overflow_add-i : goal.overflow_add-i
-overflow_add-i c = omega arith
-
-pub loop-i-smaller : goal.loop-i-smaller
-loop-i-smaller c = omega arith
+loop-i-init c = record { few = omega arith; many = omega arith; made = refl }
 
 pub loop-i-preserved : goal.loop-i-preserved
-loop-i-preserved c = let a = c.args in inited_again a.values.now a.q c.loop-i.i c.loop-i.fresh _ c.loop-i.invariant (omega arith) (omega arith) c.init.ensures
+loop-i-preserved c = let a = c.args in inited_again a.values.now a.q c.loop-i.i c.loop-i.contexts _ c.loop-i.invariant (omega arith) (omega arith) c.init.ensures
 
 pub returns : goal.returns
 unfolding values_refusal contexts_after statistics_after
-returns c = let a = c.args in (rw (eq-eqb (length a.values.now) context_count (omega arith)), inited_all a.values.now c.loop-i.fresh a.q c.loop-i.i c.loop-i.invariant (omega arith) (omega arith), refl)
+returns c = let a = c.args in (rw (eq-eqb (length a.values.now) context_count (omega arith)), inited_all a.values.now c.loop-i.contexts a.q c.loop-i.i c.loop-i.invariant (omega arith) (omega arith), refl)

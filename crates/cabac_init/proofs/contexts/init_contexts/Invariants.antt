@@ -1,11 +1,6 @@
-use Prim.Native.Nat.{◌-◌}
-use Rattle.bins.specs.Tags.{context_count}
 use Rattle.cabac.specs.EntryLaws.{Inited}
 use Rattle.cabac_init.proofs.contexts.init_contexts.Given as goal
 
 -- `init_contexts` meets its contract. Assumes nothing.
 abbrev pub invariant-loop-i : goal.invariant-loop-i
-invariant-loop-i l = Inited l.values l.q l.i l.fresh
-
-abbrev pub decreases-loop-i : goal.decreases-loop-i
-decreases-loop-i l = context_count - l.i
+invariant-loop-i l = Inited l.values l.q l.i l.contexts

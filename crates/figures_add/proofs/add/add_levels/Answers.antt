@@ -15,60 +15,12 @@ loop-i-init c =
     let l = a.levels.now in
     adding_begins l a.blocks.now a.sums.now a.greatests.now a.n
 
-pub offset_bounds-levels-i : goal.offset_bounds-levels-i
-offset_bounds-levels-i c = omega (arith, c.loop-i-test.true, c.requires.1)
-
-pub bounds-levels-i : goal.bounds-levels-i
-bounds-levels-i c = omega (arith, c.loop-i-test.true, c.requires.0)
-
-pub offset_bounds-blocks-i : goal.offset_bounds-blocks-i
-offset_bounds-blocks-i c = omega (arith, c.loop-i-test.true, c.requires.1)
-
-pub bounds-blocks-i : goal.bounds-blocks-i
-bounds-blocks-i c = omega (arith, c.loop-i-test.true, c.requires.1)
-
-pub offset_bounds-sums-i : goal.offset_bounds-sums-i
-offset_bounds-sums-i c = omega (arith, c.loop-i-test.true, c.requires.1)
-
-pub bounds-sums-i : goal.bounds-sums-i
-bounds-sums-i c = omega (arith, c.loop-i-test.true, c.requires.1)
-
-pub offset_bounds-greatests-i : goal.offset_bounds-greatests-i
-offset_bounds-greatests-i c = omega (arith, c.loop-i-test.true, c.requires.1)
-
-pub bounds-greatests-i : goal.bounds-greatests-i
-bounds-greatests-i c = omega (arith, c.loop-i-test.true, c.requires.1)
-
-pub offset_bounds-blocks-i-in-loop-i : goal.offset_bounds-blocks-i-in-loop-i
-offset_bounds-blocks-i-in-loop-i c = omega (arith, c.loop-i-test.true, c.requires.1)
-
-pub bounds-blocks-i-in-loop-i : goal.bounds-blocks-i-in-loop-i
-bounds-blocks-i-in-loop-i c = omega (arith, c.loop-i-test.true, c.requires.1)
-
-pub offset_bounds-sums-i-in-loop-i : goal.offset_bounds-sums-i-in-loop-i
-offset_bounds-sums-i-in-loop-i c = omega (arith, c.loop-i-test.true, c.requires.1)
-
-pub bounds-sums-i-in-loop-i : goal.bounds-sums-i-in-loop-i
-bounds-sums-i-in-loop-i c = omega (arith, c.loop-i-test.true, c.requires.1)
-
-pub offset_bounds-greatests-i-in-loop-i : goal.offset_bounds-greatests-i-in-loop-i
-offset_bounds-greatests-i-in-loop-i c = omega (arith, c.loop-i-test.true, c.requires.1)
-
-pub bounds-greatests-i-in-loop-i : goal.bounds-greatests-i-in-loop-i
-bounds-greatests-i-in-loop-i c = omega (arith, c.loop-i-test.true, c.requires.1)
-
-pub overflow_add-i : goal.overflow_add-i
-overflow_add-i c = omega (arith, c.loop-i-test.true, c.requires.1)
-
-pub loop-i-smaller : goal.loop-i-smaller
-loop-i-smaller c = omega (arith, c.loop-i-test.true)
-
 pub loop-i-preserved : goal.loop-i-preserved
 loop-i-preserved c =
     let a = c.args in
     let l = a.levels.now in
     let f : SFits w32 (get_or l c.loop-i.i (pos 0)) = record { sfits = c.magnitude-arg-1.given } in
-    adding_on l a.blocks.now a.sums.now a.greatests.now a.n c.loop-i.blocks c.loop-i.sums c.loop-i.greatests c.loop-i.i c.loop-i.invariant c.loop-i-test.true
+    adding_on l a.blocks.now a.sums.now a.greatests.now a.n c.loop-i.blocks c.loop-i.sums c.loop-i.greatests c.loop-i.i c.loop-i.invariant (omega arith)
     c.magnitude-m.result c.one_if.result c.wide.result c.capped32-b.result c.capped64-s.result c.larger-g.result
     (c.magnitude-m.ensures ∙ ap nat_abs (to_z-of_z f)) c.one_if.ensures c.wide.ensures.0 c.capped32-b.ensures
     c.capped64-s.ensures c.larger-g.ensures
@@ -77,4 +29,4 @@ pub returns : goal.returns
 returns c =
     let a = c.args in
     let l = a.levels.now in
-    adding_ends l a.blocks.now a.sums.now a.greatests.now a.n c.loop-i.blocks c.loop-i.sums c.loop-i.greatests c.loop-i.i c.loop-i.invariant c.loop-i-test.false
+    adding_ends l a.blocks.now a.sums.now a.greatests.now a.n c.loop-i.blocks c.loop-i.sums c.loop-i.greatests c.loop-i.i c.loop-i.invariant (omega arith)

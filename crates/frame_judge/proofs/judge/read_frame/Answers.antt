@@ -10,20 +10,20 @@ returns-then-n-ne0 c =
     let k = c.checks-n.ensures in
     (verdict_checks a.bytes.now _ k (λ z. omega arith), levels_checks a.bytes.now _ k (λ z. omega arith))
 
-pub returns-in-Ready : goal.returns-in-Ready
-returns-in-Ready c =
+pub returns-in-Ok : goal.returns-in-Ok
+returns-in-Ok c =
     let a = c.args in
     let k = c.checks-n.ensures in
     let q = c.start-s.ensures ∙ ap start (tail_is a.bytes.now) in (
-      verdict_ready a.bytes.now _ k _ _ _ (omega arith) q c.in-Ready.is c.read_from.ensures.0,
-      levels_ready a.bytes.now _ k _ _ _ (omega arith) q c.in-Ready.is c.read_from.ensures.1,
+      verdict_ready a.bytes.now _ k _ _ _ (omega arith) q c.in-Ok.is c.read_from.ensures.0,
+      levels_ready a.bytes.now _ k _ _ _ (omega arith) q c.in-Ok.is c.read_from.ensures.1,
     )
 
-pub returns-in-Refused : goal.returns-in-Refused
-returns-in-Refused c =
+pub returns-in-Err : goal.returns-in-Err
+returns-in-Err c =
     let a = c.args in
     let k = c.checks-n.ensures in
     let q = c.start-s.ensures ∙ ap start (tail_is a.bytes.now) in (
-      verdict_refused a.bytes.now _ k _ _ (omega arith) q c.in-Refused.is,
-      levels_refused a.bytes.now _ k _ _ (omega arith) q c.in-Refused.is,
+      verdict_refused a.bytes.now _ k _ _ (omega arith) q c.in-Err.is,
+      levels_refused a.bytes.now _ k _ _ (omega arith) q c.in-Err.is,
     )

@@ -1,9 +1,5 @@
 use Rattle.h264_contexts.specs.PairLaws.{Inited}
-use Prim.Native.Nat.{◌-◌}
 use Rattle.h264_contexts.proofs.contexts.init_pairs.Given as goal
 
 abbrev pub invariant-loop-i : goal.invariant-loop-i
-invariant-loop-i l = Inited l.pairs l.q l.i l.fresh
-
-abbrev pub decreases-loop-i : goal.decreases-loop-i
-decreases-loop-i l = 40 - l.i
+invariant-loop-i l = Inited l.pairs l.q l.i l.contexts

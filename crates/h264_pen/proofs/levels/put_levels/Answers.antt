@@ -1,14 +1,12 @@
 use Rattle.h264_pen.specs.LevelPuts.{leveling_begins, levels_ended, levels_skip, levels_big, levels_one}
 use Rattle.h264_block.specs.Block.{level_at}
 use Rattle.pen.specs.Sheet.{sheet}
-use Rattle.trees.specs.Levels.{negative, in_range}
 use mir.Facts.{to_z-of_z}
 use mir.Val.{SFits}
 use mir.Syntax.{w32}
 use lib.ListN.{get_or}
 use lib.IntN.{pos, nat_abs}
-use mathlib.Core.Bool.{true}
-use mathlib.Core.Path.{◌≡◌, sym, ap, subst, ◌∙◌}
+use mathlib.Core.Path.{◌≡◌, sym, ap, ◌∙◌}
 use Prim.Native.Nat.{◌-◌}
 use native.Mathlib.Omega.{arith}
 use Rattle.h264_pen.proofs.levels.put_levels.Goals as goal
@@ -18,49 +16,12 @@ loop-k-init c =
     let a = c.args in
     leveling_begins a.levels.now (sheet a.room.now a.pen)
 
-pub overflow_sub-k : goal.overflow_sub-k
-overflow_sub-k c = omega (arith, c.loop-k-test.true)
-
-pub offset_bounds-levels-k : goal.offset_bounds-levels-k
-offset_bounds-levels-k c = omega (arith, c.loop-k.invariant.few)
-
-pub bounds-levels-k : goal.bounds-levels-k
-bounds-levels-k c = omega (arith, c.loop-k.invariant.few, c.loop-k-test.true, c.requires.long)
-
-pub magnitude-m-requires : goal.magnitude-m-requires
-magnitude-m-requires c = tt
-
-pub offset_bounds-levels-k-then-m-gt0 : goal.offset_bounds-levels-k-then-m-gt0
-offset_bounds-levels-k-then-m-gt0 c = omega (arith, c.loop-k.invariant.few)
-
-pub bounds-levels-k-then-m-gt0 : goal.bounds-levels-k-then-m-gt0
-bounds-levels-k-then-m-gt0 c = omega (arith, c.loop-k.invariant.few, c.loop-k-test.true, c.requires.long)
-
-pub put_level-y-requires : goal.put_level-y-requires
-put_level-y-requires c =
-    let l = c.args.levels.now in
-    let k = c.loop-k.k in
-    let f : SFits w32 (get_or l (k - 1) (pos 0)) = record { sfits = c.magnitude-arg-1.given } in
-    (omega (arith, c.magnitude-m.ensures, c.if-m-gt0.true), subst (λ z. in_range 15 (negative z) (nat_abs z) ≡ true) (sym (to_z-of_z f)) (c.requires.ranged (k - 1) (omega (arith, c.loop-k.invariant.few, c.loop-k-test.true))))
-
-pub overflow_add-bigs : goal.overflow_add-bigs
-overflow_add-bigs c = omega (arith, c.loop-k.invariant.few)
-
-pub loop-k-smaller-then-m-gt1 : goal.loop-k-smaller-then-m-gt1
-loop-k-smaller-then-m-gt1 c = omega (arith, c.loop-k-test.true)
-
 pub loop-k-preserved-then-m-gt1 : goal.loop-k-preserved-then-m-gt1
 loop-k-preserved-then-m-gt1 c =
     let a = c.args in
     let l = a.levels.now in
     let f : SFits w32 (get_or l (c.loop-k.k - 1) (pos 0)) = record { sfits = c.magnitude-arg-1.given } in
     levels_big l (sheet a.room.now a.pen) c.loop-k.k c.loop-k.ones c.loop-k.bigs (sheet c.loop-k.room c.loop-k.y) c.loop-k.invariant c.loop-k-test.true _ (sym (to_z-of_z f)) (omega (arith, c.magnitude-m.ensures, c.if-m-gt0.true)) (sheet c.put_level-y.new.room c.put_level-y.result) c.room-1.given c.put_level-y.ensures (omega (arith, c.magnitude-m.ensures, c.if-m-gt1.true))
-
-pub overflow_add-ones : goal.overflow_add-ones
-overflow_add-ones c = omega (arith, c.loop-k.invariant.few)
-
-pub loop-k-smaller-else-m-gt1 : goal.loop-k-smaller-else-m-gt1
-loop-k-smaller-else-m-gt1 c = omega (arith, c.loop-k-test.true)
 
 pub loop-k-preserved-else-m-gt1 : goal.loop-k-preserved-else-m-gt1
 loop-k-preserved-else-m-gt1 c =
@@ -69,9 +30,6 @@ loop-k-preserved-else-m-gt1 c =
     let f : SFits w32 (get_or l (c.loop-k.k - 1) (pos 0)) = record { sfits = c.magnitude-arg-1.given } in
     levels_one l (sheet a.room.now a.pen) c.loop-k.k c.loop-k.ones c.loop-k.bigs (sheet c.loop-k.room c.loop-k.y) c.loop-k.invariant c.loop-k-test.true _ (sym (to_z-of_z f)) (omega (arith, c.magnitude-m.ensures, c.if-m-gt0.true)) (sheet c.put_level-y.new.room c.put_level-y.result) c.room-1.given c.put_level-y.ensures (omega (arith, c.magnitude-m.ensures, c.if-m-gt1.false))
 
-pub loop-k-smaller : goal.loop-k-smaller
-loop-k-smaller c = omega (arith, c.loop-k-test.true)
-
 pub loop-k-preserved : goal.loop-k-preserved
 loop-k-preserved c =
     let a = c.args in
@@ -79,9 +37,6 @@ loop-k-preserved c =
     let f : SFits w32 (get_or l (c.loop-k.k - 1) (pos 0)) = record { sfits = c.magnitude-arg-1.given } in
     let e : c.magnitude-m.result ≡ nat_abs (level_at l (c.loop-k.k - 1)) = c.magnitude-m.ensures ∙ ap nat_abs (to_z-of_z f) in
     levels_skip l (sheet a.room.now a.pen) c.loop-k.k c.loop-k.ones c.loop-k.bigs (sheet c.loop-k.room c.loop-k.y) c.loop-k.invariant c.loop-k-test.true (omega (arith, e, c.if-m-gt0.false))
-
-pub shape_of-room : goal.shape_of-room
-shape_of-room c = c.loop-k.invariant.long
 
 pub returns : goal.returns
 returns c =

@@ -4,6 +4,3 @@ use Rattle.h264_pen.proofs.places.last_place.Given as goal
 -- `last_place` meets its contract. Assumes nothing.
 abbrev pub invariant-loop-k : goal.invariant-loop-k
 invariant-loop-k l = Seeking l.levels l.k
-
-abbrev pub decreases-loop-k : goal.decreases-loop-k
-decreases-loop-k l = l.k

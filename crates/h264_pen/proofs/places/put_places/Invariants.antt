@@ -1,11 +1,7 @@
 use Rattle.h264_pen.specs.PlacePuts.{Placing}
 use Rattle.pen.specs.Sheet.{sheet}
-use Prim.Native.Nat.{◌-◌}
 use Rattle.h264_pen.proofs.places.put_places.Given as goal
 
 -- `put_places` meets its contract. Assumes nothing.
 abbrev pub invariant-loop-k : goal.invariant-loop-k
 invariant-loop-k l = Placing l.levels l.last (sheet l.initial.room l.initial.y) l.k (sheet l.room l.y)
-
-abbrev pub decreases-loop-k : goal.decreases-loop-k
-decreases-loop-k l = l.last - l.k

@@ -1,16 +1,17 @@
+use Rattle.bins.specs.StepLaws.{passed_on}
 use Rattle.h264_reader.specs.BlockCode.{block_refused, block_reads, block_levels}
 use Rattle.h264_reader.proofs.block.read_block.Goals as goal
 
-pub returns-in_default : goal.returns-in_default
-returns-in_default c =
+pub returns-in_err-next : goal.returns-in_err-next
+returns-in_err-next c =
     let a = c.args in
-    block_refused a.list a.bytes.now a.x a.contexts.now c.places-f.result c.places-f.new.contexts c.places-f.new.marks c.places-f.ensures _ c.in_default.is
-    a.block.now
+    rw (passed_on c.from_residual.result _ c.from_residual.ensures.1)
+    (block_refused a.list a.bytes.now a.x a.contexts.now c.places.result c.places.new.contexts c.places.new.marks c.places.ensures _ c.in_err-next.was)
 
 pub levels-requires : goal.levels-requires
 levels-requires c =
     let a = c.args in (
-      block_reads a.list a.bytes.now a.x a.contexts.now c.places-f.result c.places-f.new.contexts c.places-f.new.marks c.places-f.ensures _ _ c.in-Bin.is
+      block_reads a.list a.bytes.now a.x a.contexts.now c.places.result c.places.new.contexts c.places.new.marks c.places.ensures _ _ c.in_ok-next.was
           c.requires.0,
       c.requires.2,
     )
@@ -18,5 +19,5 @@ levels-requires c =
 pub returns : goal.returns
 returns c =
     let a = c.args in
-    block_levels a.list a.bytes.now a.x a.contexts.now c.places-f.result c.places-f.new.contexts c.places-f.new.marks c.places-f.ensures _ _
-    c.in-Bin.is _ _ c.requires.1 c.levels.result c.levels.new.contexts c.levels.ensures
+    block_levels a.list a.bytes.now a.x a.contexts.now c.places.result c.places.new.contexts c.places.new.marks c.places.ensures _ _
+    c.in_ok-next.was _ _ c.requires.1 c.levels.result c.levels.new.contexts c.levels.ensures

@@ -5,7 +5,7 @@ use Prim.Native.Nat.{ℕ}
 use mathlib.Core.List.{List}
 use mathlib.Core.Path.{refl, sym, ◌∙◌}
 use native.Mathlib.Omega.{arith}
-use Rattle.h264_reader.specs.EntriesLaws.{zeros_packed, bins_no, bins_refused, bins_over, bins_got, step_number}
+use Rattle.h264_reader.specs.EntriesLaws.{zeros_packed, bins_no, bins_refused, bins_over, bins_got}
 use Rattle.h264_reader.proofs.entries.read_bins.Goals as goal
 
 abbrev front : Interval
@@ -19,32 +19,31 @@ returns-then-n-ne0 c =
     let a = c.args in
     bins_no a.bytes.now a.block.now c.block_refusal-n.result c.block_refusal-n.ensures c.if-n-ne0.true
 
-pub read_into-r-requires : goal.read_into-r-requires
-read_into-r-requires c =
+pub read_into-requires : goal.read_into-requires
+read_into-requires c =
     let a = c.args in
     ((omega arith, zeros_packed 40), block_passed a.block.now (sym c.if-n-ne0.false ∙ c.block_refusal-n.ensures))
 
-pub returns-in_default : goal.returns-in_default
-returns-in_default c =
+pub returns-in-Err : goal.returns-in-Err
+returns-in-Err c =
     let a = c.args in
-    bins_refused a.bytes.now a.block.now (sym c.if-n-ne0.false ∙ c.block_refusal-n.ensures) front refl zeros c.read_into-r.result c.read_into-r.new.contexts
-    c.read_into-r.new.block c.read_into-r.ensures c.step_refusal.result
-    (step_number c.read_into-r.result _ c.step_refusal.result c.in_default.is c.step_refusal.ensures)
+    bins_refused a.bytes.now a.block.now (sym c.if-n-ne0.false ∙ c.block_refusal-n.ensures) front refl zeros c.read_into.result c.read_into.new.contexts
+    c.read_into.new.block c.read_into.ensures _ c.in-Err.is
 
-pub copy-requires : goal.copy-requires
-copy-requires c =
+pub clear-requires : goal.clear-requires
+clear-requires c =
     let a = c.args in
-    (omega (arith, block_passed a.block.now (sym c.if-n-ne0.false ∙ c.block_refusal-n.ensures)), refl)
+    omega (arith, block_passed a.block.now (sym c.if-n-ne0.false ∙ c.block_refusal-n.ensures))
 
 pub returns-then-at-bytes : goal.returns-then-at-bytes
 returns-then-at-bytes c =
     let a = c.args in
-    bins_over a.bytes.now a.block.now (sym c.if-n-ne0.false ∙ c.block_refusal-n.ensures) front refl zeros c.read_into-r.result c.read_into-r.new.contexts
-    c.read_into-r.new.block c.read_into-r.ensures _ _ c.in-Bin.is (omega arith, zeros_packed 40) c.if-at-bytes.true
-    c.copy.new.block c.copy.ensures
+    bins_over a.bytes.now a.block.now (sym c.if-n-ne0.false ∙ c.block_refusal-n.ensures) front refl zeros c.read_into.result c.read_into.new.contexts
+    c.read_into.new.block c.read_into.ensures _ _ c.in-Ok.is (omega arith, zeros_packed 40) c.if-at-bytes.true
+    c.clear.new.block c.clear.ensures
 
-pub returns : goal.returns
-returns c =
+pub returns-else-at-bytes : goal.returns-else-at-bytes
+returns-else-at-bytes c =
     let a = c.args in
-    bins_got a.bytes.now a.block.now (sym c.if-n-ne0.false ∙ c.block_refusal-n.ensures) front refl zeros c.read_into-r.result c.read_into-r.new.contexts
-    c.read_into-r.new.block c.read_into-r.ensures _ _ c.in-Bin.is c.if-at-bytes.false
+    bins_got a.bytes.now a.block.now (sym c.if-n-ne0.false ∙ c.block_refusal-n.ensures) front refl zeros c.read_into.result c.read_into.new.contexts
+    c.read_into.new.block c.read_into.ensures _ _ c.in-Ok.is c.if-at-bytes.false

@@ -29,12 +29,6 @@ returns-then-inferred c =
     c.loop-k.k c.loop-k.s (sheet c.loop-k.room c.loop-k.y) c.loop-k.invariant c.loop-k-test.true c.inferred.result c.inferred.ensures
     c.if-inferred.true
 
-pub number_at-number-requires : goal.number_at-number-requires
-number_at-number-requires c = omega (arith, c.loop-k.invariant.few)
-
-pub bounds-levels-k : goal.bounds-levels-k
-bounds-levels-k c = omega (arith, c.loop-k.invariant.few)
-
 pub put_bin-y-requires : goal.put_bin-y-requires
 put_bin-y-requires c =
     let a = c.args in
@@ -47,9 +41,6 @@ appended-s-requires c = (
   omega (arith, c.loop-k.invariant.few, c.loop-k-test.true),
   c.is_level-b.ensures.1,
 )
-
-pub loop-k-smaller : goal.loop-k-smaller
-loop-k-smaller c = omega arith
 
 pub loop-k-preserved : goal.loop-k-preserved
 loop-k-preserved c =

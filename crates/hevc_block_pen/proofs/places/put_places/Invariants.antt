@@ -7,6 +7,3 @@ use Rattle.hevc_block_pen.proofs.places.put_places.Given as goal
 abbrev pub invariant-loop-k : goal.invariant-loop-k
 invariant-loop-k l = Putting l.levels (number_at l.numbers) l.infer l.below l.initial.s
     (sheet l.initial.room l.initial.y) l.k l.s (sheet l.room l.y)
-
-abbrev pub decreases-loop-k : goal.decreases-loop-k
-decreases-loop-k l = l.k

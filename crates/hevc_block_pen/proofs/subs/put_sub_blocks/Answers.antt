@@ -30,8 +30,8 @@ number_in-lastin-requires c = (
   omega arith,
 )
 
-pub overflow_add-i : goal.overflow_add-i
-overflow_add-i c =
+pub overflow_step-i : goal.overflow_step-i
+overflow_step-i c =
     let a = c.args in
     omega (arith, last_few a.p a.h c.requires.2 c.number_in-last.result c.number_in-last.ensures)
 
@@ -40,9 +40,6 @@ loop-i-init c =
     let a = c.args in
     walk_begins a.p a.h a.block.now a.coded.now a.stats.now (sheet a.room.now a.pen) c.requires.3 c.requires.6
     c.number_in-last.result c.number_in-last.ensures
-
-pub overflow_sub-i : goal.overflow_sub-i
-overflow_sub-i c = omega (arith, c.loop-i-test.true)
 
 pub overflow_cast-xs : goal.overflow_cast-xs
 overflow_cast-xs c =
@@ -73,9 +70,6 @@ bounds-outer-i c =
       c.number_in-last.ensures,
       c.loop-i.invariant.few,
     )
-
-pub bounds-outer-0 : goal.bounds-outer-0
-bounds-outer-0 c = omega arith
 
 pub overflow_cast-xs-in-loop-i : goal.overflow_cast-xs-in-loop-i
 overflow_cast-xs-in-loop-i c =
@@ -116,9 +110,6 @@ bounds-outer-i-in-loop-i c =
       c.loop-i.invariant.few,
     )
 
-pub bounds-outer-1 : goal.bounds-outer-1
-bounds-outer-1 c = omega arith
-
 pub overflow_cast-ys-in-loop-i : goal.overflow_cast-ys-in-loop-i
 overflow_cast-ys-in-loop-i c =
     let a = c.args in
@@ -147,9 +138,6 @@ put_sub_block-r-requires c =
       λ e. only_last a.p a.h c.requires.2 c.number_in-last.result (c.loop-i.i - 1) c.number_in-last.ensures
           (omega (arith, c.loop-i.invariant.few, c.loop-i-test.true, c.number_in-last.ensures)) e,
     )
-
-pub loop-i-smaller : goal.loop-i-smaller
-loop-i-smaller c = omega (arith, c.loop-i-test.true)
 
 pub loop-i-preserved : goal.loop-i-preserved
 loop-i-preserved c =

@@ -1,16 +1,5 @@
-use Rattle.std.proofs.Common.{arith}
-use Prim.Native.Nat.{ℕ, ◌^◌}
-use Rattle.hevc_summary.specs.CodeLaws.{at_two, at_three, at_four, at_five}
+use Rattle.hevc_summary.specs.CodeLaws.{side_shl}
 use Rattle.hevc_counts.proofs.counts.side_of.Goals as goal
 
-pub returns-in-2 : goal.returns-in-2
-returns-in-2 c = at_two (λ (k : ℕ). 2 ^ k) c.args.log2 c.in-2.is
-
-pub returns-in-3 : goal.returns-in-3
-returns-in-3 c = at_three (λ (k : ℕ). 2 ^ k) c.args.log2 c.in-3.is
-
-pub returns-in-4 : goal.returns-in-4
-returns-in-4 c = at_four (λ (k : ℕ). 2 ^ k) c.args.log2 c.in-4.is
-
-pub returns-in_default : goal.returns-in_default
-returns-in_default c = at_five (λ (k : ℕ). 2 ^ k) c.args.log2 c.requires (omega arith) (omega arith) (omega arith)
+pub returns : goal.returns
+returns c = side_shl c.args.log2 c.requires.0 c.requires.1

@@ -1,9 +1,5 @@
-use Prim.Native.Nat.{◌-◌}
 use Rattle.hevc_summary.specs.CodeLaws.{Making}
 use Rattle.hevc_counts.proofs.counts.whole_of.Given as goal
 
 abbrev pub invariant-loop-s : goal.invariant-loop-s
 invariant-loop-s l = Making l.log2 l.counts l.sums l.n l.count l.sum l.map l.s
-
-abbrev pub decreases-loop-s : goal.decreases-loop-s
-decreases-loop-s l = l.n - l.s

@@ -17,7 +17,7 @@ put_extra-y-requires c =
       c.requires.0,
       c.requires.2.rice,
       rest_small a.p a.levels.now a.greater2 a.g c.base_of-d.result.level c.base_of-d.result.more c.requires.0 c.requires.1 c.requires.2
-          c.requires.3 c.base_of-d.ensures c.magnitude.result is c.above-rest.result c.above-rest.ensures,
+          c.requires.3 c.base_of-d.ensures c.magnitude.result is c.saturating_sub-rest.result c.saturating_sub-rest.ensures,
     )
 
 pub overflow_add-m : goal.overflow_add-m
@@ -28,8 +28,8 @@ overflow_add-m c =
     omega (
       arith,
       magnitude_small a.p a.levels.now a.greater2 a.g c.base_of-d.result.level c.base_of-d.result.more c.requires.0 c.requires.1
-          c.requires.2 c.requires.3 c.base_of-d.ensures c.magnitude.result is c.above-rest.result c.value_if-v.result
-          c.above-rest.ensures c.value_if-v.ensures,
+          c.requires.2 c.requires.3 c.base_of-d.ensures c.magnitude.result is c.saturating_sub-rest.result c.value_if-v.result
+          c.saturating_sub-rest.ensures c.value_if-v.ensures,
     )
 
 pub overflow_add-g : goal.overflow_add-g
@@ -40,8 +40,8 @@ overflow_add-g c =
     omega (
       arith,
       magnitude_small a.p a.levels.now a.greater2 a.g c.base_of-d.result.level c.base_of-d.result.more c.requires.0 c.requires.1
-          c.requires.2 c.requires.3 c.base_of-d.ensures c.magnitude.result is c.above-rest.result c.value_if-v.result
-          c.above-rest.ensures c.value_if-v.ensures,
+          c.requires.2 c.requires.3 c.base_of-d.ensures c.magnitude.result is c.saturating_sub-rest.result c.value_if-v.result
+          c.saturating_sub-rest.ensures c.value_if-v.ensures,
       c.requires.2.sum,
     )
 
@@ -55,8 +55,8 @@ behind-going-requires c =
       omega (
         arith,
         magnitude_small a.p a.levels.now a.greater2 a.g c.base_of-d.result.level c.base_of-d.result.more c.requires.0 c.requires.1
-            c.requires.2 c.requires.3 c.base_of-d.ensures c.magnitude.result is c.above-rest.result
-            c.value_if-v.result c.above-rest.ensures c.value_if-v.ensures,
+            c.requires.2 c.requires.3 c.base_of-d.ensures c.magnitude.result is c.saturating_sub-rest.result
+            c.value_if-v.result c.saturating_sub-rest.ensures c.value_if-v.ensures,
       ),
     )
 
@@ -66,5 +66,5 @@ returns c =
     let f : SFits w32 (get_or a.levels.now (a.g.places % 16) (pos 0)) = record { sfits = c.magnitude-arg-1.given } in
     let is = c.magnitude.ensures ∙ ap nat_abs (to_z-of_z f) in
     level_puts a.p a.levels.now a.greater2 a.g c.base_of-d.result.level c.base_of-d.result.more c.requires.0 c.requires.1 c.requires.2
-    c.requires.3 c.base_of-d.ensures c.magnitude.result is c.above-rest.result c.value_if-v.result
-    c.above-rest.ensures c.value_if-v.ensures c.behind-going.result c.behind-going.ensures _ _ c.put_extra-y.ensures
+    c.requires.3 c.base_of-d.ensures c.magnitude.result is c.saturating_sub-rest.result c.value_if-v.result
+    c.saturating_sub-rest.ensures c.value_if-v.ensures c.behind-going.result c.behind-going.ensures _ _ c.put_extra-y.ensures

@@ -1,5 +1,5 @@
 use native.Mathlib.Omega.{arith}
-use Prim.Native.Nat.{◌-◌, ◌≤◌}
+use Prim.Native.Nat.{◌≤◌}
 use mathlib.Core.Path.{sym, subst}
 use lib.ListN.{length}
 use Rattle.hevc_places.specs.Packing.{unpacked}
@@ -14,34 +14,24 @@ pub overflow_mul-v : goal.overflow_mul-v
 overflow_mul-v c =
     let a = c.args in
     let h = c.requires in
-    omega (arith, signing_small a.levels.now (unpacked a.s) a.n c.loop-j.v c.loop-j.j c.loop-j.invariant c.loop-j-test.true (omega (arith, h.0.few)))
-
-pub place_at-requires : goal.place_at-requires
-place_at-requires c = omega (arith, c.loop-j-test.true, c.requires.1, c.requires.0.few)
-
-pub sign_at-requires : goal.sign_at-requires
-sign_at-requires c = c.place_at.ensures.0
+    omega (arith, signing_small a.levels.now (unpacked a.s) a.n c.loop-j.v c.loop-j.j c.loop-j.invariant (omega arith) (omega (arith, h.0.few)))
 
 pub overflow_add-v : goal.overflow_add-v
 overflow_add-v c =
     let a = c.args in
-    let few = signing_small a.levels.now (unpacked a.s) a.n c.loop-j.v c.loop-j.j c.loop-j.invariant c.loop-j-test.true
+    let few = signing_small a.levels.now (unpacked a.s) a.n c.loop-j.v c.loop-j.j c.loop-j.invariant (omega arith)
     (omega (arith, c.requires.0.few)) in
     omega (arith, c.sign_at.ensures.1)
-
-pub loop-j-smaller : goal.loop-j-smaller
-loop-j-smaller c = omega (arith, c.loop-j-test.true)
 
 pub loop-j-preserved : goal.loop-j-preserved
 loop-j-preserved c =
     let a = c.args in
     let few = c.requires.1 in
-    let more = c.loop-j-test.true in
     let long : a.n ≤ length (unpacked a.s) = subst (λ i. a.n ≤ i) (sym (unpack_length a.s.count a.s.packed)) few in
-    signing_on a.levels.now (unpacked a.s) a.n c.loop-j.v c.loop-j.j c.loop-j.invariant more long c.place_at.result c.sign_at.result
+    signing_on a.levels.now (unpacked a.s) a.n c.loop-j.v c.loop-j.j c.loop-j.invariant (omega arith) long c.place_at.result c.sign_at.result
     (c.place_at.ensures.1 a.s.count (omega arith)) c.place_at.ensures.0 c.sign_at.ensures.1 c.sign_at.ensures.0
 
 pub returns : goal.returns
 returns c =
     let a = c.args in
-    signing_ends a.levels.now (unpacked a.s) a.n c.loop-j.v c.loop-j.j c.loop-j.invariant c.loop-j-test.false
+    signing_ends a.levels.now (unpacked a.s) a.n c.loop-j.v c.loop-j.j c.loop-j.invariant (omega arith)

@@ -1,7 +1,7 @@
 use native.Mathlib.Omega.{arith}
 use mathlib.Core.Path.{sym, subst}
 use lib.Pow.{shr_le}
-use Prim.Native.Nat.{◌+◌, ◌-◌}
+use Prim.Native.Nat.{◌+◌}
 use Rattle.bins.specs.Syn.{done}
 use Rattle.bins.specs.Readers.{prefix_s}
 use Rattle.hevc_residual.specs.Wanted.{Wanted}
@@ -28,16 +28,13 @@ overflow_add-base c = omega (arith, shr_le c.loop-g.g c.args.shift, c.requires.0
 pub put_bin-y-requires : goal.put_bin-y-requires
 put_bin-y-requires c = omega (arith, shr_le c.loop-g.g c.args.shift, c.requires.0, c.requires.1)
 
-pub loop-g-smaller : goal.loop-g-smaller
-loop-g-smaller c = omega arith
-
 pub loop-g-preserved : goal.loop-g-preserved
 loop-g-preserved c =
     let a = c.args in
     subst (Ones (prefix_counter {B = Wanted} a.base a.shift) (prefix_putter a.base a.shift) a.n a.most (sheet a.room.now a.pen) (c.loop-g.g + 1))
     (sym c.put_bin-y.ensures)
     (ones_more (prefix_counter {B = Wanted} a.base a.shift) (prefix_putter a.base a.shift) a.n a.most (sheet a.room.now a.pen) c.loop-g.g
-    (sheet c.loop-g.room c.loop-g.y) c.loop-g.invariant c.loop-g-test.true)
+    (sheet c.loop-g.room c.loop-g.y) c.loop-g.invariant (omega arith))
 
 pub overflow_shr-n : goal.overflow_shr-n
 overflow_shr-n c = omega (arith, c.requires.3)
@@ -57,7 +54,7 @@ returns-then-n-most c =
     let a = c.args in
     subst (Wrote (prefix_s a.base a.shift a.most 0 want) (done a.n) w (sheet a.room.now a.pen)) (sym c.put_bin.ensures)
     (ones_zero (prefix_counter {B = Wanted} a.base a.shift) (prefix_putter a.base a.shift) a.n a.most (sheet a.room.now a.pen) c.loop-g.g
-    (sheet c.loop-g.room c.loop-g.y) c.loop-g.invariant c.loop-g-test.false c.if-n-most.true want w q)
+    (sheet c.loop-g.room c.loop-g.y) c.loop-g.invariant (omega arith) c.if-n-most.true want w q)
 
 pub shape_of-room : goal.shape_of-room
 shape_of-room c = c.loop-g.invariant.long
@@ -66,4 +63,4 @@ pub returns : goal.returns
 returns c =
     let a = c.args in
     ones_most (prefix_counter {B = Wanted} a.base a.shift) (prefix_putter a.base a.shift) a.n a.most (sheet a.room.now a.pen) c.loop-g.g
-    (sheet c.loop-g.room c.loop-g.y) c.loop-g.invariant c.loop-g-test.false c.if-n-most.false
+    (sheet c.loop-g.room c.loop-g.y) c.loop-g.invariant (omega arith) c.if-n-most.false

@@ -7,7 +7,7 @@ use Rattle.bins.specs.Tags.{context_count}
 use Rattle.bins.specs.declared.state.Interval.{Interval}
 use Rattle.hevc_residual.specs.Wanted.{area}
 use Rattle.hevc_checks.specs.ChecksLaws.{zeros_packed}
-use Rattle.hevc_reader.specs.EntriesLaws.{bins_no, bins_passed, bins_refused, bins_over, bins_got, blocked_number}
+use Rattle.hevc_reader.specs.EntriesLaws.{bins_no, bins_passed, bins_refused, bins_over, bins_got}
 use Rattle.hevc_reader.proofs.entries.read_bins.Goals as goal
 
 -- `read_bins` meets its contract: one equation for each way out. Assumes nothing.
@@ -23,18 +23,18 @@ returns-then-n-ne0 c =
     let a = c.args in
     bins_no a.bytes.now a.stats.now a.p a.block.now c.bins_checks-n.result c.bins_checks-n.ensures c.if-n-ne0.true
 
-pub read_into-r-requires : goal.read_into-r-requires
-read_into-r-requires c =
+pub read_into-requires : goal.read_into-requires
+read_into-requires c =
     let a = c.args in
     let s = bins_passed a.bytes.now a.stats.now a.p a.block.now (sym c.if-n-ne0.false ∙ c.bins_checks-n.ensures) in
     ((omega arith, zeros_packed context_count), c.decision_table-table.ensures, s.accepted, s.room, s.statistics)
 
-pub returns-in_default : goal.returns-in_default
-returns-in_default c =
+pub returns-in-Err : goal.returns-in-Err
+returns-in-Err c =
     let a = c.args in
     let passed1 = sym c.if-n-ne0.false ∙ c.bins_checks-n.ensures in
-    bins_refused a.bytes.now a.stats.now a.p a.block.now passed1 front refl zeros c.read_into-r.result c.read_into-r.new.contexts c.read_into-r.new.stats c.read_into-r.new.block c.read_into-r.ensures
-    c.blocked_refusal.result (blocked_number c.read_into-r.result _ c.blocked_refusal.result c.in_default.is c.blocked_refusal.ensures)
+    bins_refused a.bytes.now a.stats.now a.p a.block.now passed1 front refl zeros c.read_into.result c.read_into.new.contexts c.read_into.new.stats c.read_into.new.block c.read_into.ensures
+    _ c.in-Err.is
 
 pub area_of-requires : goal.area_of-requires
 area_of-requires c =
@@ -47,17 +47,17 @@ clear-requires c =
     let a = c.args in
     let passed1 = sym c.if-n-ne0.false ∙ c.bins_checks-n.ensures in
     let s = bins_passed a.bytes.now a.stats.now a.p a.block.now passed1 in
-    subst (λ k. k ≤ length c.read_into-r.new.block) (sym c.area_of.ensures) (subst (λ k. area a.p ≤ k) (sym c.read_into-r.auto.block) s.room)
+    subst (λ k. k ≤ length c.read_into.new.block) (sym c.area_of.ensures) (subst (λ k. area a.p ≤ k) (sym c.read_into.auto.block) s.room)
 
 pub returns-then-at-bytes : goal.returns-then-at-bytes
 returns-then-at-bytes c =
     let a = c.args in
     let passed1 = sym c.if-n-ne0.false ∙ c.bins_checks-n.ensures in
-    bins_over a.bytes.now a.stats.now a.p a.block.now passed1 front refl zeros c.read_into-r.result c.read_into-r.new.contexts c.read_into-r.new.stats c.read_into-r.new.block c.read_into-r.ensures c.in-Got.found c.in-Got.x c.in-Got.is
+    bins_over a.bytes.now a.stats.now a.p a.block.now passed1 front refl zeros c.read_into.result c.read_into.new.contexts c.read_into.new.stats c.read_into.new.block c.read_into.ensures _ _ c.in-Ok.is
     (omega arith, zeros_packed context_count) c.if-at-bytes.true c.area_of.result c.area_of.ensures c.clear.new.block c.clear.ensures
 
 pub returns : goal.returns
 returns c =
     let a = c.args in
     let passed1 = sym c.if-n-ne0.false ∙ c.bins_checks-n.ensures in
-    bins_got a.bytes.now a.stats.now a.p a.block.now passed1 front refl zeros c.read_into-r.result c.read_into-r.new.contexts c.read_into-r.new.stats c.read_into-r.new.block c.read_into-r.ensures c.in-Got.found c.in-Got.x c.in-Got.is c.if-at-bytes.false
+    bins_got a.bytes.now a.stats.now a.p a.block.now passed1 front refl zeros c.read_into.result c.read_into.new.contexts c.read_into.new.stats c.read_into.new.block c.read_into.ensures _ _ c.in-Ok.is c.if-at-bytes.false

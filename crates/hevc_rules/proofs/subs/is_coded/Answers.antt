@@ -1,5 +1,5 @@
 use native.Mathlib.Omega.{arith}
-use Rattle.hevc_rules.specs.SmallLaws.{square_small, grid_inside, coded_right, coded_under, coded_yes, coded_no}
+use Rattle.hevc_rules.specs.SmallLaws.{square_small, grid_inside}
 use Rattle.hevc_rules.proofs.subs.is_coded.Goals as goal
 
 -- `is_coded` meets its contract. Assumes nothing.
@@ -14,15 +14,3 @@ overflow_cast-ys c = let a = c.args in omega (arith, grid_inside a.coded.now a.w
 
 pub bounds-coded-ys : goal.bounds-coded-ys
 bounds-coded-ys c = let a = c.args in omega (arith, grid_inside a.coded.now a.w a.xs a.ys c.if-xs-w.true c.if-ys-w.true, c.requires.0)
-
-pub returns-then-coded-ys : goal.returns-then-coded-ys
-returns-then-coded-ys c = let a = c.args in coded_yes a.coded.now a.w a.xs a.ys c.if-xs-w.true c.if-ys-w.true c.if-coded-ys.true
-
-pub returns-else-coded-ys : goal.returns-else-coded-ys
-returns-else-coded-ys c = let a = c.args in coded_no a.coded.now a.w a.xs a.ys c.if-xs-w.true c.if-ys-w.true c.if-coded-ys.false
-
-pub returns-else-ys-w : goal.returns-else-ys-w
-returns-else-ys-w c = let a = c.args in coded_under a.coded.now a.w a.xs a.ys c.if-xs-w.true c.if-ys-w.false
-
-pub returns-else-xs-w : goal.returns-else-xs-w
-returns-else-xs-w c = let a = c.args in coded_right a.coded.now a.w a.xs a.ys c.if-xs-w.false

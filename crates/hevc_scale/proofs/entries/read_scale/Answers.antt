@@ -4,7 +4,7 @@ use Rattle.bins.specs.Interval.{Goes}
 use Rattle.hevc_elements.specs.Agree.{from}
 use Rattle.hevc_cross.specs.Scale.{scale_s}
 use Rattle.hevc_scale_syntax.specs.Agree.{nothing, SaysScale}
-use Rattle.hevc_scale.specs.EntriesLaws.{payload_no_lem, checks_passed, payload_refused, payload_got, scaled_number}
+use Rattle.hevc_scale.specs.EntriesLaws.{payload_no_lem, checks_passed, payload_refused, payload_got}
 use Rattle.hevc_scale.proofs.entries.read_scale.Goals as goal
 
 pub returns-then-n-ne0 : goal.returns-then-n-ne0
@@ -19,23 +19,23 @@ read_scale-r-requires c =
     ((subst (Goes a.bytes.now) (sym c.«open».ensures) s.goes, s.packed), s.component, c.decision_table-table.ensures)
 
 -- what was read was read from the state opened
-pub returns-in_default : goal.returns-in_default
-returns-in_default c =
+pub returns-in-Err : goal.returns-in-Err
+returns-in-Err c =
     let a = c.args in
     let r = c.read_scale-r in
     let says = subst (λ (x : Interval). SaysScale r.result r.new.contexts (from false a.bytes.now (scale_s nothing a.component) x a.contexts.now)) c.«open».ensures r.ensures in
     payload_refused a.bytes.now a.e a.contexts.now a.component (sym c.if-n-ne0.false ∙ c.payload_checks-n.ensures) r.result r.new.contexts says
-    c.scaled_refusal.result (scaled_number r.result _ c.scaled_refusal.result c.in_default.is c.scaled_refusal.ensures)
+    _ c.in-Err.is
 
 pub settle-state-requires : goal.settle-state-requires
 settle-state-requires c =
     let a = c.args in
     (checks_passed a.bytes.now a.e a.contexts.now a.component (sym c.if-n-ne0.false ∙ c.payload_checks-n.ensures)).short
 
-pub returns : goal.returns
-returns c =
+pub returns-in-Ok : goal.returns-in-Ok
+returns-in-Ok c =
     let a = c.args in
     let r = c.read_scale-r in
     let says = subst (λ (x : Interval). SaysScale r.result r.new.contexts (from false a.bytes.now (scale_s nothing a.component) x a.contexts.now)) c.«open».ensures r.ensures in
     payload_got a.bytes.now a.e a.contexts.now a.component (sym c.if-n-ne0.false ∙ c.payload_checks-n.ensures) r.result r.new.contexts says
-    c.in-Got.z c.in-Got.x c.in-Got.is c.settle-state.result c.settle-state.ensures
+    _ c.in-Ok.is c.settle-state.result c.settle-state.ensures

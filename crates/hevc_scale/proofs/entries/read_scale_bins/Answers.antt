@@ -6,7 +6,7 @@ use lib.ListN.{replicate}
 use Rattle.bins.specs.Tags.{context_count}
 use Rattle.bins.specs.declared.state.Interval.{Interval}
 use Rattle.hevc_checks.specs.ChecksLaws.{zeros_packed}
-use Rattle.hevc_scale.specs.EntriesLaws.{component_passed, bins_no, bins_refused, bins_got, bins_over, scaled_number}
+use Rattle.hevc_scale.specs.EntriesLaws.{component_passed, bins_no, bins_refused, bins_got, bins_over}
 use Rattle.hevc_scale.proofs.entries.read_scale_bins.Goals as goal
 
 -- `read_scale_bins` meets its contract. Assumes nothing.
@@ -16,35 +16,34 @@ front = record { range = 256; offset = 0; position = record { 0 = 0 } }
 abbrev zeros : List ℕ
 zeros = replicate context_count 0
 
-pub returns-then-n-ne0 : goal.returns-then-n-ne0
-returns-then-n-ne0 c =
+pub returns-then-refused-ne0 : goal.returns-then-refused-ne0
+returns-then-refused-ne0 c =
     let a = c.args in
-    bins_no a.bytes.now a.component c.component_refusal-n.result c.component_refusal-n.ensures c.if-n-ne0.true
+    bins_no a.bytes.now a.component c.component_refusal-refused.result c.component_refusal-refused.ensures c.if-refused-ne0.true
 
 pub read_scale-r-requires : goal.read_scale-r-requires
 read_scale-r-requires c = (
   (omega arith, zeros_packed context_count),
   component_passed c.args.component
-      (sym c.if-n-ne0.false ∙ c.component_refusal-n.ensures),
+      (sym c.if-refused-ne0.false ∙ c.component_refusal-refused.ensures),
   c.decision_table-table.ensures,
 )
 
-pub returns-in_default : goal.returns-in_default
-returns-in_default c =
+pub returns-in-Err : goal.returns-in-Err
+returns-in-Err c =
     let a = c.args in
-    let q = sym c.if-n-ne0.false ∙ c.component_refusal-n.ensures in
-    bins_refused a.bytes.now a.component q front refl zeros c.read_scale-r.result c.read_scale-r.new.contexts c.read_scale-r.ensures c.scaled_refusal.result
-    (scaled_number c.read_scale-r.result _ c.scaled_refusal.result c.in_default.is c.scaled_refusal.ensures)
+    let q = sym c.if-refused-ne0.false ∙ c.component_refusal-refused.ensures in
+    bins_refused a.bytes.now a.component q front refl zeros c.read_scale-r.result c.read_scale-r.new.contexts c.read_scale-r.ensures _ c.in-Err.is
 
 pub returns-then-at-bytes : goal.returns-then-at-bytes
 returns-then-at-bytes c =
     let a = c.args in
-    let q = sym c.if-n-ne0.false ∙ c.component_refusal-n.ensures in
-    bins_over a.bytes.now a.component q front refl zeros c.read_scale-r.result c.read_scale-r.new.contexts c.read_scale-r.ensures c.in-Got.z c.in-Got.x c.in-Got.is
+    let q = sym c.if-refused-ne0.false ∙ c.component_refusal-refused.ensures in
+    bins_over a.bytes.now a.component q front refl zeros c.read_scale-r.result c.read_scale-r.new.contexts c.read_scale-r.ensures _ c.in-Ok.is
     (omega arith, zeros_packed context_count) c.if-at-bytes.true
 
-pub returns : goal.returns
-returns c =
+pub returns-else-at-bytes : goal.returns-else-at-bytes
+returns-else-at-bytes c =
     let a = c.args in
-    let q = sym c.if-n-ne0.false ∙ c.component_refusal-n.ensures in
-    bins_got a.bytes.now a.component q front refl zeros c.read_scale-r.result c.read_scale-r.new.contexts c.read_scale-r.ensures c.in-Got.z c.in-Got.x c.in-Got.is c.if-at-bytes.false
+    let q = sym c.if-refused-ne0.false ∙ c.component_refusal-refused.ensures in
+    bins_got a.bytes.now a.component q front refl zeros c.read_scale-r.result c.read_scale-r.new.contexts c.read_scale-r.ensures _ c.in-Ok.is c.if-at-bytes.false

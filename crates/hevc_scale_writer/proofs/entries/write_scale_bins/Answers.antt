@@ -1,8 +1,8 @@
+use Rattle.std.specs.Prelude.{Ok, Err}
 use mathlib.Core.Path.{sym, ap, ◌∙◌}
 use lib.IntN.{nat_abs}
 use mir.Facts.{to_z-of_z}
 use Rattle.hevc_residual.specs.Wanted.{negative}
-use Rattle.hevc_residual.specs.declared.answers.Written.TheVariants as listed
 use Rattle.hevc_scale_writer.specs.WriteAgree.{value_of}
 use Rattle.hevc_scale_writer.specs.Demand3.{promised}
 use Rattle.hevc_scale.specs.EntriesLaws.{component_passed}
@@ -12,31 +12,31 @@ use Rattle.hevc_scale_writer.proofs.entries.write_scale_bins.Goals as goal
 pub returns-then-n-ne0 : goal.returns-then-n-ne0
 returns-then-n-ne0 c =
     let a = c.args in
-    promised a.component a.scale a.room.now (listed.Refused c.component_refusal-n.result) a.room.now
+    promised a.component a.scale a.room.now (Err c.component_refusal-n.result) a.room.now
     (refused_first a.component a.scale a.room.now c.component_refusal-n.result c.component_refusal-n.ensures c.if-n-ne0.true)
 
-pub returns-then-v-eq5 : goal.returns-then-v-eq5
-returns-then-v-eq5 c =
+pub returns-in_default : goal.returns-in_default
+returns-in_default c =
     let a = c.args in
     let h = sym c.if-n-ne0.false ∙ c.component_refusal-n.ensures in
-    let y = value_says a.scale c.value-v.result (c.value-v.ensures ∙ ap (λ z. value_of (nat_abs z)) (to_z-of_z c.ranges.scale)) in
-    promised a.component a.scale a.room.now (listed.Refused 4) a.room.now
-    (refused_second a.component a.scale a.room.now h (y.0 c.if-v-eq5.true))
+    let y = value_says a.scale c.value.result (c.value.ensures ∙ ap (λ z. value_of (nat_abs z)) (to_z-of_z c.ranges.scale)) in
+    promised a.component a.scale a.room.now (Err 4) a.room.now
+    (refused_second a.component a.scale a.room.now h (y.0 c.in_default.is))
 
 pub put_scale-counted-requires : goal.put_scale-counted-requires
 put_scale-counted-requires c =
     let a = c.args in
     let h = sym c.if-n-ne0.false ∙ c.component_refusal-n.ensures in
-    let y = value_says a.scale c.value-v.result (c.value-v.ensures ∙ ap (λ z. value_of (nat_abs z)) (to_z-of_z c.ranges.scale)) in
-    (component_passed a.component h, (y.1 c.if-v-eq5.false).0)
+    let y = value_says a.scale c.value.result (c.value.ensures ∙ ap (λ z. value_of (nat_abs z)) (to_z-of_z c.ranges.scale)) in
+    (component_passed a.component h, (y.1 _ c.in-Some.is).0)
 
 pub returns-then-counted : goal.returns-then-counted
 returns-then-counted c =
     let a = c.args in
     let h = sym c.if-n-ne0.false ∙ c.component_refusal-n.ensures in
-    let y = value_says a.scale c.value-v.result (c.value-v.ensures ∙ ap (λ z. value_of (nat_abs z)) (to_z-of_z c.ranges.scale)) in
-    let u = y.1 c.if-v-eq5.false in
-    promised a.component a.scale a.room.now (listed.Refused 12) c.put_scale-counted.new.room
+    let y = value_says a.scale c.value.result (c.value.ensures ∙ ap (λ z. value_of (nat_abs z)) (to_z-of_z c.ranges.scale)) in
+    let u = y.1 _ c.in-Some.is in
+    promised a.component a.scale a.room.now (Err 12) c.put_scale-counted.new.room
     (no_room a.component a.scale a.room.now h u.2 c.put_scale-counted.new.room c.put_scale-counted.result
     (c.put_scale-counted.ensures a.scale any u.1 (sym (c.is_negative-sign.ensures ∙ ap negative (to_z-of_z c.ranges.scale)))) c.if-counted.true)
 
@@ -44,16 +44,16 @@ pub put_scale-written-requires : goal.put_scale-written-requires
 put_scale-written-requires c =
     let a = c.args in
     let h = sym c.if-n-ne0.false ∙ c.component_refusal-n.ensures in
-    let y = value_says a.scale c.value-v.result (c.value-v.ensures ∙ ap (λ z. value_of (nat_abs z)) (to_z-of_z c.ranges.scale)) in
-    (component_passed a.component h, (y.1 c.if-v-eq5.false).0)
+    let y = value_says a.scale c.value.result (c.value.ensures ∙ ap (λ z. value_of (nat_abs z)) (to_z-of_z c.ranges.scale)) in
+    (component_passed a.component h, (y.1 _ c.in-Some.is).0)
 
 pub returns : goal.returns
 returns c =
     let a = c.args in
     let h = sym c.if-n-ne0.false ∙ c.component_refusal-n.ensures in
-    let y = value_says a.scale c.value-v.result (c.value-v.ensures ∙ ap (λ z. value_of (nat_abs z)) (to_z-of_z c.ranges.scale)) in
-    let u = y.1 c.if-v-eq5.false in
-    promised a.component a.scale a.room.now (listed.List c.put_scale-written.result.at) c.put_scale-written.new.room
+    let y = value_says a.scale c.value.result (c.value.ensures ∙ ap (λ z. value_of (nat_abs z)) (to_z-of_z c.ranges.scale)) in
+    let u = y.1 _ c.in-Some.is in
+    promised a.component a.scale a.room.now (Ok c.put_scale-written.result.at) c.put_scale-written.new.room
     (all_written a.component a.scale a.room.now h u.2 c.put_scale-counted.new.room c.put_scale-counted.result
     (c.put_scale-counted.ensures a.scale any u.1 (sym (c.is_negative-sign.ensures ∙ ap negative (to_z-of_z c.ranges.scale)))) c.if-counted.false c.put_scale-written.new.room c.put_scale-written.result
     (c.put_scale-written.ensures a.scale any u.1 (sym (c.is_negative-sign.ensures ∙ ap negative (to_z-of_z c.ranges.scale)))))

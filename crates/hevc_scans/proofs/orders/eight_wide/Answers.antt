@@ -1,12 +1,18 @@
-use mathlib.Core.Path.{◌≡◌}
+use mathlib.Core.Path.{◌≡◌, refl}
 use native.Mathlib.Omega.{arith}
+use Rattle.hevc_residual.specs.Scan.{scan_order}
+use Rattle.hevc_scans.specs.Pairs.{pairs_of}
 use Rattle.hevc_scans.proofs.orders.eight_wide.Goals as goal
 
+-- `eight_wide` meets its contract, by computing. Assumes nothing.
 pub returns-in-0 : goal.returns-in-0
-returns-in-0 c = rw c.in-0.is c.diagonal8.ensures
+unfolding pairs_of scan_order
+returns-in-0 c = rw c.in-0.is refl
 
 pub returns-in-1 : goal.returns-in-1
-returns-in-1 c = rw c.in-1.is c.rows8.ensures
+unfolding pairs_of scan_order
+returns-in-1 c = rw c.in-1.is refl
 
 pub returns-in_default : goal.returns-in_default
-returns-in_default c = let p : c.args.scan ≡ 2 = omega arith in rw p c.columns8.ensures
+unfolding pairs_of scan_order
+returns-in_default c = let p : c.args.scan ≡ 2 = omega arith in rw p refl

@@ -18,8 +18,8 @@ slice_bounds-read_block-end c = let a = c.args in let h = c.requires in own_coun
 pub read_block-r-requires : goal.read_block-r-requires
 read_block-r-requires c = let a = c.args in let h = c.requires in ((h.3, zeros_packed context_count), h.0, (parameter_passed a.p places h.1).0, own_places a.p h.1 c.area_of-n.result c.area_of-n.ensures, h.2)
 
-pub returns-in_default : goal.returns-in_default
-returns-in_default c = let a = c.args in let h = c.requires in list_no_lem a.p a.list.now (record { range = 256; offset = 0; position = record { 0 = a.at } }) (replicate context_count 0) a.stats.now c.read_block-r.result c.read_block-r.new.contexts c.read_block-r.new.block c.read_block-r.new.stats c.read_block-r.ensures.2 _ c.in_default.is c.read_block-r.new.stats
+pub returns-in-Err : goal.returns-in-Err
+returns-in-Err c = let a = c.args in let h = c.requires in list_no_lem a.p a.list.now (record { range = 256; offset = 0; position = record { 0 = a.at } }) (replicate context_count 0) a.stats.now c.read_block-r.result c.read_block-r.new.contexts c.read_block-r.new.block c.read_block-r.new.stats c.read_block-r.ensures.2 _ c.in-Err.is c.read_block-r.new.stats
 
-pub returns : goal.returns
-returns c = let a = c.args in let h = c.requires in list_got a.p a.list.now (record { range = 256; offset = 0; position = record { 0 = a.at } }) (replicate context_count 0) a.stats.now c.read_block-r.result c.read_block-r.new.contexts c.read_block-r.new.block c.read_block-r.new.stats c.read_block-r.ensures.2 (h.3, zeros_packed context_count) c.read_block-r.ensures.1 c.in-Got.field-0 c.in-Got.x c.in-Got.is
+pub returns-in-Ok : goal.returns-in-Ok
+returns-in-Ok c = let a = c.args in let h = c.requires in list_got a.p a.list.now (record { range = 256; offset = 0; position = record { 0 = a.at } }) (replicate context_count 0) a.stats.now c.read_block-r.result c.read_block-r.new.contexts c.read_block-r.new.block c.read_block-r.new.stats c.read_block-r.ensures.2 (h.3, zeros_packed context_count) c.read_block-r.ensures.1 _ c.in-Ok.is

@@ -5,6 +5,3 @@ use Rattle.hevc_tray_packer.proofs.lists.read_lists.Given as goal
 
 abbrev pub invariant-loop-i : goal.invariant-loop-i
 invariant-loop-i l = Going l.records l.stats l.list l.i l.at l.st
-
-abbrev pub decreases-loop-i : goal.decreases-loop-i
-decreases-loop-i l = length l.records - l.i

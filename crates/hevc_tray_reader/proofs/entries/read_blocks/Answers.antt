@@ -11,19 +11,10 @@ use Rattle.hevc_tray.proofs.TrayCode.{Walking, walk_begins, walk_ends, next_acce
 use Rattle.hevc_tray_reader.proofs.entries.read_blocks.Goals as goal
 use Rattle.hevc_tray.proofs.TrayCode.{Walking, walk_begins, walk_ends, next_accepted, next_room, next_checks, walk_refused, walk_on, read_number}
 
-pub decision_table-table-requires : goal.decision_table-table-requires
-decision_table-table-requires c = tt
-
 pub loop-i-init : goal.loop-i-init
 loop-i-init c =
     walk_begins c.args.bytes.now c.args.e c.args.contexts.now c.args.stats.now c.args.records.now c.args.levels.now c.args.found.now
     c.requires
-
-pub bounds-records-i : goal.bounds-records-i
-bounds-records-i c = omega arith
-
-pub params_of-p-requires : goal.params_of-p-requires
-params_of-p-requires c = tt
 
 pub area_of-requires : goal.area_of-requires
 area_of-requires c =
@@ -77,9 +68,6 @@ read_checked-r-requires c = (
       (c.area_of.ensures ∙ ap (λ (z : Params). area z) c.params_of-p.ensures)),
 )
 
-pub read_refusal-requires : goal.read_refusal-requires
-read_refusal-requires c = tt
-
 pub shape_of-found-in_default : goal.shape_of-found-in_default
 shape_of-found-in_default c = c.loop-i.invariant.many
 
@@ -92,20 +80,11 @@ returns-in_default c =
     c.read_checked-r.new.stats c.read_checked-r.new.block c.read_checked-r.ensures c.read_refusal.result
     (read_number c.read_checked-r.result _ c.read_refusal.result c.in_default.is c.read_refusal.ensures) c.requires
 
-pub row_of-requires : goal.row_of-requires
-row_of-requires c = tt
-
 pub offset_bounds-found-i : goal.offset_bounds-found-i
 offset_bounds-found-i c = omega (arith, c.loop-i.invariant.count)
 
 pub bounds-found-i : goal.bounds-found-i
 bounds-found-i c = omega (arith, c.loop-i.invariant.rooms, c.loop-i.invariant.many)
-
-pub overflow_add-i : goal.overflow_add-i
-overflow_add-i c = omega (arith, c.loop-i.invariant.count)
-
-pub loop-i-smaller : goal.loop-i-smaller
-loop-i-smaller c = omega arith
 
 pub loop-i-preserved : goal.loop-i-preserved
 loop-i-preserved c =
@@ -114,14 +93,14 @@ loop-i-preserved c =
     c.params_of-p.ensures (c.loop-i.at + c.area_of.result - c.loop-i.at)
     ((let z : c.loop-i.at + c.area_of.result - c.loop-i.at ≡ c.area_of.result = omega arith in z) ∙
     (c.area_of.ensures ∙ ap (λ (z : Params). area z) c.params_of-p.ensures)) c.read_checked-r.result c.read_checked-r.new.contexts
-    c.read_checked-r.new.stats c.read_checked-r.new.block c.read_checked-r.ensures c.in-Block.f c.in-Block.next c.in-Block.is in
+    c.read_checked-r.new.stats c.read_checked-r.new.block c.read_checked-r.ensures c.in-Ok.b.found c.in-Ok.b.state c.in-Ok.is in
     let m : c.loop-i.at + (c.loop-i.at + c.area_of.result - c.loop-i.at) ≡ c.loop-i.at + c.area_of.result = omega arith in
     subst (λ (k : ℕ). Walking c.args.bytes.now c.args.e c.args.contexts.now c.args.stats.now c.args.records.now c.args.levels.now
-    c.args.found.now (c.loop-i.i + 1) k c.in-Block.next c.read_checked-r.new.contexts c.read_checked-r.new.stats
+    c.args.found.now (c.loop-i.i + 1) k c.in-Ok.b.state c.read_checked-r.new.contexts c.read_checked-r.new.stats
     (take c.loop-i.at c.loop-i.levels ++ (c.read_checked-r.new.block ++ drop (c.loop-i.at + c.area_of.result - c.loop-i.at) (drop c.loop-i.at c.loop-i.levels)))
     (set c.loop-i.found c.loop-i.i c.row_of.result)) m
     (subst (λ (v : List ℕ). Walking c.args.bytes.now c.args.e c.args.contexts.now c.args.stats.now c.args.records.now c.args.levels.now
-    c.args.found.now (c.loop-i.i + 1) (c.loop-i.at + (c.loop-i.at + c.area_of.result - c.loop-i.at)) c.in-Block.next c.read_checked-r.new.contexts
+    c.args.found.now (c.loop-i.i + 1) (c.loop-i.at + (c.loop-i.at + c.area_of.result - c.loop-i.at)) c.in-Ok.b.state c.read_checked-r.new.contexts
     c.read_checked-r.new.stats
     (take c.loop-i.at c.loop-i.levels ++ (c.read_checked-r.new.block ++ drop (c.loop-i.at + c.area_of.result - c.loop-i.at) (drop c.loop-i.at c.loop-i.levels)))
     (set c.loop-i.found c.loop-i.i v)) (sym c.row_of.ensures) w)
@@ -134,8 +113,9 @@ shape_of-found c = c.loop-i.invariant.many
 
 pub returns : goal.returns
 returns c =
-    walk_ends c.args.bytes.now c.args.e c.args.contexts.now c.args.stats.now c.args.records.now c.args.levels.now c.args.found.now
-    c.loop-i.i c.loop-i.at c.loop-i.state c.loop-i.contexts c.loop-i.stats c.loop-i.levels c.loop-i.found c.loop-i.invariant (omega arith) c.requires
+    let e : length c.args.records.now ≡ c.loop-i.i = omega arith in
+    rw e (walk_ends c.args.bytes.now c.args.e c.args.contexts.now c.args.stats.now c.args.records.now c.args.levels.now c.args.found.now
+    c.loop-i.i c.loop-i.at c.loop-i.state c.loop-i.contexts c.loop-i.stats c.loop-i.levels c.loop-i.found c.loop-i.invariant (omega arith) c.requires)
 
 pub shape_of-levels-in_default : goal.shape_of-levels-in_default
 shape_of-levels-in_default c =

@@ -6,58 +6,45 @@ use lib.ListN.{length}
 use Rattle.hevc_tray.proofs.ChecksCode.{records_on, records_bad, records_fine, records_end}
 use Rattle.hevc_tray_reader.proofs.entries.records_refusal.Goals as goal
 
-pub loop-i-init : goal.loop-i-init
-loop-i-init c = (omega arith, omega arith, refl)
-
-pub bounds-records-i : goal.bounds-records-i
-bounds-records-i c = omega arith
-
-pub params_of-p-requires : goal.params_of-p-requires
-params_of-p-requires c = tt
+pub loop-record-init : goal.loop-record-init
+loop-record-init c = (omega arith, refl)
 
 pub slice_bounds-parameter_refusal-count : goal.slice_bounds-parameter_refusal-count
-slice_bounds-parameter_refusal-count c = c.loop-i.invariant.1
+slice_bounds-parameter_refusal-count c = c.loop-record.invariant.0
 
 pub slice_bounds-parameter_refusal-start : goal.slice_bounds-parameter_refusal-start
-slice_bounds-parameter_refusal-start c = c.loop-i.invariant.1
+slice_bounds-parameter_refusal-start c = c.loop-record.invariant.0
 
 pub slice_bounds-parameter_refusal-end : goal.slice_bounds-parameter_refusal-end
 slice_bounds-parameter_refusal-end c = omega arith
 
-pub parameter_refusal-requires : goal.parameter_refusal-requires
-parameter_refusal-requires c = tt
-
 pub returns-then-parameter_refusal-ne0 : goal.returns-then-parameter_refusal-ne0
 returns-then-parameter_refusal-ne0 c =
-    records_bad c.args.records.now c.args.levels.now c.loop-i.i c.loop-i.at c.loop-i.invariant.2 (omega arith) c.params_of-p.result
+    records_bad c.args.records.now c.args.levels.now c.loop-record.record-index c.loop-record.at c.loop-record.invariant.1 (omega arith) c.params_of-p.result
     c.params_of-p.ensures c.parameter_refusal.result c.parameter_refusal.ensures c.if-parameter_refusal-ne0.true
 
 pub area_of-at-requires : goal.area_of-at-requires
 area_of-at-requires c =
-    let g = records_fine c.args.records.now c.args.levels.now c.loop-i.i c.loop-i.at c.loop-i.invariant.2 (omega arith) c.params_of-p.result
-    c.params_of-p.ensures c.parameter_refusal.result c.parameter_refusal.ensures c.if-parameter_refusal-ne0.false c.loop-i.invariant.1 in
+    let g = records_fine c.args.records.now c.args.levels.now c.loop-record.record-index c.loop-record.at c.loop-record.invariant.1 (omega arith) c.params_of-p.result
+    c.params_of-p.ensures c.parameter_refusal.result c.parameter_refusal.ensures c.if-parameter_refusal-ne0.false c.loop-record.invariant.0 in
     (g.0.least, g.0.most)
 
 pub overflow_add-at : goal.overflow_add-at
 overflow_add-at c =
-    let g = records_fine c.args.records.now c.args.levels.now c.loop-i.i c.loop-i.at c.loop-i.invariant.2 (omega arith) c.params_of-p.result c.params_of-p.ensures
-    c.parameter_refusal.result c.parameter_refusal.ensures c.if-parameter_refusal-ne0.false c.loop-i.invariant.1 in
-    let h : c.loop-i.at + c.area_of-at.result ≤ length c.args.levels.now = omega (arith, g.1, c.area_of-at.ensures) in
+    let g = records_fine c.args.records.now c.args.levels.now c.loop-record.record-index c.loop-record.at c.loop-record.invariant.1 (omega arith) c.params_of-p.result c.params_of-p.ensures
+    c.parameter_refusal.result c.parameter_refusal.ensures c.if-parameter_refusal-ne0.false c.loop-record.invariant.0 in
+    let h : c.loop-record.at + c.area_of-at.result ≤ length c.args.levels.now = omega (arith, g.1, c.area_of-at.ensures) in
     search rules
 
-pub loop-i-smaller : goal.loop-i-smaller
-loop-i-smaller c = omega arith
-
-pub loop-i-preserved : goal.loop-i-preserved
-loop-i-preserved c =
-    let g = records_fine c.args.records.now c.args.levels.now c.loop-i.i c.loop-i.at c.loop-i.invariant.2 (omega arith) c.params_of-p.result c.params_of-p.ensures
-    c.parameter_refusal.result c.parameter_refusal.ensures c.if-parameter_refusal-ne0.false c.loop-i.invariant.1 in (
-      omega arith,
+pub loop-record-preserved : goal.loop-record-preserved
+loop-record-preserved c =
+    let g = records_fine c.args.records.now c.args.levels.now c.loop-record.record-index c.loop-record.at c.loop-record.invariant.1 (omega arith) c.params_of-p.result c.params_of-p.ensures
+    c.parameter_refusal.result c.parameter_refusal.ensures c.if-parameter_refusal-ne0.false c.loop-record.invariant.0 in (
       omega (arith, g.1, c.area_of-at.ensures),
-      records_on c.args.records.now c.args.levels.now c.loop-i.i c.loop-i.at c.loop-i.invariant.2 (omega arith)
+      records_on c.args.records.now c.args.levels.now c.loop-record.record-index c.loop-record.at c.loop-record.invariant.1 (omega arith)
           c.params_of-p.result c.params_of-p.ensures c.parameter_refusal.result c.parameter_refusal.ensures c.if-parameter_refusal-ne0.false c.area_of-at.result
           c.area_of-at.ensures,
     )
 
 pub returns : goal.returns
-returns c = records_end c.args.records.now c.args.levels.now c.loop-i.i c.loop-i.at c.loop-i.invariant.2 (omega arith)
+returns c = records_end c.args.records.now c.args.levels.now c.loop-record.record-index c.loop-record.at c.loop-record.invariant.1 (omega arith)

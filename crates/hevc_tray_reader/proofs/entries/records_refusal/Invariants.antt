@@ -6,8 +6,5 @@ use Rattle.hevc_tray.specs.Tray.{records_refusal}
 use Rattle.hevc_tray_reader.proofs.entries.records_refusal.Given as goal
 
 -- `records_refusal` meets its contract: the records passed are within limits, and their parts in the buffer. Assumes nothing.
-abbrev pub invariant-loop-i : goal.invariant-loop-i
-invariant-loop-i l = (l.i ≤ length l.records) × (l.at ≤ length l.levels) × (records_refusal (records_of (drop l.i l.records)) (drop l.at l.levels) ≡ records_refusal (records_of l.records) l.levels)
-
-abbrev pub decreases-loop-i : goal.decreases-loop-i
-decreases-loop-i l = length l.records - l.i
+abbrev pub invariant-loop-record : goal.invariant-loop-record
+invariant-loop-record l = (l.at ≤ length l.levels) × (records_refusal (records_of (drop l.record-index l.records)) (drop l.at l.levels) ≡ records_refusal (records_of l.records) l.levels)

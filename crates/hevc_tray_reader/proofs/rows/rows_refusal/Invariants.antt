@@ -5,8 +5,5 @@ use Rattle.hevc_tray.specs.Rows.{rows_refusal}
 use Rattle.hevc_tray_reader.proofs.rows.rows_refusal.Given as goal
 
 -- `rows_refusal` meets its contract: the records passed have flags of 0 and 1. Assumes nothing.
-abbrev pub invariant-loop-i : goal.invariant-loop-i
-invariant-loop-i l = (l.i ≤ length l.records) × (rows_refusal (drop l.i l.records) ≡ rows_refusal l.records)
-
-abbrev pub decreases-loop-i : goal.decreases-loop-i
-decreases-loop-i l = length l.records - l.i
+abbrev pub invariant-loop-record : goal.invariant-loop-record
+invariant-loop-record l = rows_refusal (drop l.record-index l.records) ≡ rows_refusal l.records

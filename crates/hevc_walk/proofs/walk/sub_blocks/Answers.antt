@@ -1,5 +1,6 @@
 use native.Mathlib.Omega.{arith}
 use Prim.Native.Nat.{◌-◌, ◌*◌, ◌≤◌}
+use Rattle.bins.specs.StepLaws.{passed_on}
 use Rattle.hevc_residual.specs.Wanted.{area, width}
 use Rattle.hevc_rules.specs.SubsAgree.{last_of}
 use Rattle.hevc_rules.specs.WalkLaws.{last_column, last_row, sub_spot, sub_site}
@@ -34,8 +35,8 @@ number_in-last-requires c =
 pub number_in-lastin-requires : goal.number_in-lastin-requires
 number_in-lastin-requires c = (omega arith, c.requires.2.scan, omega arith, omega arith)
 
-pub overflow_add-i : goal.overflow_add-i
-overflow_add-i c =
+pub overflow_step-i : goal.overflow_step-i
+overflow_step-i c =
     let a = c.args in
     omega (arith, last_few a.p a.h c.requires.2 c.number_in-last.result c.number_in-last.ensures)
 
@@ -44,9 +45,6 @@ loop-i-init c =
     let a = c.args in
     let long = zeros_long c.args.p c.args.block.now c.requires.4 in
     (code_begins a.p a.h a.list a.bytes.now a.x a.contexts.now a.coded.now a.block.now a.stats.now c.number_in-last.result c.number_in-last.ensures c.requires.0 c.requires.3 long c.requires.5, keeps_none a.p a.block.now c.requires.4)
-
-pub overflow_sub-i : goal.overflow_sub-i
-overflow_sub-i c = omega (arith, c.loop-i-test.true)
 
 pub overflow_cast-xs : goal.overflow_cast-xs
 overflow_cast-xs c =
@@ -61,7 +59,7 @@ offset_bounds-outer-i c =
 pub bounds-outer-i : goal.bounds-outer-i
 bounds-outer-i c =
     let few : c.loop-i.i ≤ 64 = omega (arith, c.loop-i.invariant.0.few, last_few c.args.p c.args.h c.requires.2 c.number_in-last.result c.number_in-last.ensures, c.number_in-last.ensures) in
-    omega (arith, few, c.loop-i-test.true)
+    omega (arith, few)
 
 pub bounds-outer-0 : goal.bounds-outer-0
 bounds-outer-0 c = omega arith
@@ -69,7 +67,7 @@ bounds-outer-0 c = omega arith
 pub overflow_cast-xs-in-loop-i : goal.overflow_cast-xs-in-loop-i
 overflow_cast-xs-in-loop-i c =
     let a = c.args in
-    let within : c.loop-i.i - 1 ≤ last_of c.args.p c.args.h = omega (arith, c.loop-i.invariant.0.few, c.loop-i-test.true) in
+    let within : c.loop-i.i - 1 ≤ last_of c.args.p c.args.h = omega (arith, c.loop-i.invariant.0.few) in
     omega (arith, column_few a.p a.h c.requires.2 c.outer_order-outer.result c.outer_order-outer.ensures (c.loop-i.i - 1) within)
 
 pub overflow_cast-ys : goal.overflow_cast-ys
@@ -85,7 +83,7 @@ offset_bounds-outer-i-in-loop-i c =
 pub bounds-outer-i-in-loop-i : goal.bounds-outer-i-in-loop-i
 bounds-outer-i-in-loop-i c =
     let few : c.loop-i.i ≤ 64 = omega (arith, c.loop-i.invariant.0.few, last_few c.args.p c.args.h c.requires.2 c.number_in-last.result c.number_in-last.ensures, c.number_in-last.ensures) in
-    omega (arith, few, c.loop-i-test.true)
+    omega (arith, few)
 
 pub bounds-outer-1 : goal.bounds-outer-1
 bounds-outer-1 c = omega arith
@@ -93,13 +91,13 @@ bounds-outer-1 c = omega arith
 pub overflow_cast-ys-in-loop-i : goal.overflow_cast-ys-in-loop-i
 overflow_cast-ys-in-loop-i c =
     let a = c.args in
-    let within : c.loop-i.i - 1 ≤ last_of c.args.p c.args.h = omega (arith, c.loop-i.invariant.0.few, c.loop-i-test.true) in
+    let within : c.loop-i.i - 1 ≤ last_of c.args.p c.args.h = omega (arith, c.loop-i.invariant.0.few) in
     omega (arith, row_few a.p a.h c.requires.2 c.outer_order-outer.result c.outer_order-outer.ensures (c.loop-i.i - 1) within)
 
-pub sub_block-r-requires : goal.sub_block-r-requires
-sub_block-r-requires c =
+pub sub_block-requires : goal.sub_block-requires
+sub_block-requires c =
     let a = c.args in
-    let within : c.loop-i.i - 1 ≤ last_of c.args.p c.args.h = omega (arith, c.loop-i.invariant.0.few, c.loop-i-test.true) in
+    let within : c.loop-i.i - 1 ≤ last_of c.args.p c.args.h = omega (arith, c.loop-i.invariant.0.few) in
     let j = c.loop-i.invariant.0 in
     let m = within in (
       j.reads,
@@ -119,26 +117,24 @@ sub_block-r-requires c =
       c.loop-i.invariant.1,
     )
 
-pub shape_of-coded-in_default : goal.shape_of-coded-in_default
-shape_of-coded-in_default c = as_long c.sub_block-r.new.coded c.args.coded.now (width c.args.p * width c.args.p) c.sub_block-r.ensures.0 c.requires.3
+pub shape_of-coded-in_err-so_far : goal.shape_of-coded-in_err-so_far
+shape_of-coded-in_err-so_far c = as_long c.sub_block.new.coded c.args.coded.now (width c.args.p * width c.args.p) c.sub_block.ensures.0 c.requires.3
 
-pub shape_of-block-in_default : goal.shape_of-block-in_default
-shape_of-block-in_default c =
+pub shape_of-block-in_err-so_far : goal.shape_of-block-in_err-so_far
+shape_of-block-in_err-so_far c =
     let long = zeros_long c.args.p c.args.block.now c.requires.4 in
-    as_long c.sub_block-r.new.block c.args.block.now (area c.args.p) c.sub_block-r.ensures.1 long
+    as_long c.sub_block.new.block c.args.block.now (area c.args.p) c.sub_block.ensures.1 long
 
-pub returns-in_default : goal.returns-in_default
-returns-in_default c =
+pub returns-in_err-so_far : goal.returns-in_err-so_far
+returns-in_err-so_far c =
     let a = c.args in
-    (c.sub_block-r.ensures.1, c.sub_block-r.ensures.2, code_refused a.p a.h a.list a.bytes.now a.x a.contexts.now a.coded.now a.block.now a.stats.now c.number_in-last.result c.number_in-last.ensures c.number_in-lastin.result c.number_in-lastin.ensures c.loop-i.i c.loop-i.c c.loop-i.y c.loop-i.contexts c.loop-i.coded c.loop-i.block c.loop-i.stats c.loop-i.invariant.0 (omega (arith, c.loop-i-test.true)) c.sub_block-r.result c.sub_block-r.new.contexts c.sub_block-r.new.coded c.sub_block-r.new.block c.sub_block-r.new.stats c.sub_block-r.ensures.3 _ c.in_default.is, c.sub_block-r.ensures.4)
-
-pub loop-i-smaller : goal.loop-i-smaller
-loop-i-smaller c = omega (arith, c.loop-i-test.true)
+    rw (passed_on c.from_residual.result _ c.from_residual.ensures.1)
+    (c.sub_block.ensures.1, c.sub_block.ensures.2, code_refused a.p a.h a.list a.bytes.now a.x a.contexts.now a.coded.now a.block.now a.stats.now c.number_in-last.result c.number_in-last.ensures c.number_in-lastin.result c.number_in-lastin.ensures c.loop-i.i c.loop-i.so_far.carry c.loop-i.so_far.next c.loop-i.contexts c.loop-i.coded c.loop-i.block c.loop-i.stats c.loop-i.invariant.0 (omega arith) c.sub_block.result c.sub_block.new.contexts c.sub_block.new.coded c.sub_block.new.block c.sub_block.new.stats c.sub_block.ensures.3 _ c.in_err-so_far.was, tt)
 
 pub loop-i-preserved : goal.loop-i-preserved
 loop-i-preserved c =
     let a = c.args in
-    (code_on a.p a.h a.list a.bytes.now a.x a.contexts.now a.coded.now a.block.now a.stats.now c.number_in-last.result c.number_in-last.ensures c.number_in-lastin.result c.number_in-lastin.ensures c.loop-i.i c.loop-i.c c.loop-i.y c.loop-i.contexts c.loop-i.coded c.loop-i.block c.loop-i.stats c.loop-i.invariant.0 (omega (arith, c.loop-i-test.true)) c.sub_block-r.result c.sub_block-r.new.contexts c.sub_block-r.new.coded c.sub_block-r.new.block c.sub_block-r.new.stats c.sub_block-r.ensures.3 _ _ _ c.in-Got.is c.sub_block-r.ensures.0 c.sub_block-r.ensures.1 c.sub_block-r.ensures.2, keeps_carried a.p c.sub_block-r.result _ _ _ c.sub_block-r.new.block c.sub_block-r.ensures.4 c.in-Got.is)
+    (code_on a.p a.h a.list a.bytes.now a.x a.contexts.now a.coded.now a.block.now a.stats.now c.number_in-last.result c.number_in-last.ensures c.number_in-lastin.result c.number_in-lastin.ensures c.loop-i.i c.loop-i.so_far.carry c.loop-i.so_far.next c.loop-i.contexts c.loop-i.coded c.loop-i.block c.loop-i.stats c.loop-i.invariant.0 (omega arith) c.sub_block.result c.sub_block.new.contexts c.sub_block.new.coded c.sub_block.new.block c.sub_block.new.stats c.sub_block.ensures.3 _ c.in_ok-so_far.was c.sub_block.ensures.0 c.sub_block.ensures.1 c.sub_block.ensures.2, keeps_carried a.p c.sub_block.result _ c.sub_block.new.block c.sub_block.ensures.4 c.in_ok-so_far.was)
 
 pub shape_of-coded : goal.shape_of-coded
 shape_of-coded c = as_long c.loop-i.coded c.args.coded.now (width c.args.p * width c.args.p) c.loop-i.invariant.0.flags c.requires.3
@@ -151,4 +147,4 @@ shape_of-block c =
 pub returns : goal.returns
 returns c =
     let a = c.args in
-    (c.loop-i.invariant.0.places, c.loop-i.invariant.0.statistics, walk_ends a.p a.h a.list a.bytes.now a.x a.contexts.now a.coded.now a.block.now a.stats.now c.loop-i.i c.loop-i.c c.loop-i.y c.loop-i.contexts c.loop-i.coded c.loop-i.block c.loop-i.stats c.loop-i.invariant.0 (omega (arith, c.loop-i-test.false)) c.loop-i.k, c.loop-i.invariant.1)
+    (c.loop-i.invariant.0.places, c.loop-i.invariant.0.statistics, walk_ends a.p a.h a.list a.bytes.now a.x a.contexts.now a.coded.now a.block.now a.stats.now c.loop-i.i c.loop-i.so_far.carry c.loop-i.so_far.next c.loop-i.contexts c.loop-i.coded c.loop-i.block c.loop-i.stats c.loop-i.invariant.0 (omega arith) c.loop-i.so_far.stored, c.loop-i.invariant.1)

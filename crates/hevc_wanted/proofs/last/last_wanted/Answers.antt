@@ -9,7 +9,7 @@ pub loop-i-init : goal.loop-i-init
 loop-i-init c = looking_begins c.args.p c.args.block.now c.grid-i.result c.requires.2 c.grid-i.ensures.0
 
 pub corner_at-c-requires : goal.corner_at-c-requires
-corner_at-c-requires c = (c.requires.1, c.requires.2, omega (arith, c.loop-i.invariant.few, c.loop-i-test.true))
+corner_at-c-requires c = (c.requires.1, c.requires.2, omega (arith, c.loop-i.invariant.few, c.loop-i.auto.i))
 
 pub places_at-s-requires : goal.places_at-s-requires
 places_at-s-requires c = (c.requires.0, c.corner_at-c.ensures.0, c.requires.3)

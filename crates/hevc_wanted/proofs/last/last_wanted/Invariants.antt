@@ -4,6 +4,3 @@ use Rattle.hevc_wanted.proofs.last.last_wanted.Given as goal
 -- `last_wanted` meets its contract. Assumes nothing.
 abbrev pub invariant-loop-i : goal.invariant-loop-i
 invariant-loop-i l = Looking l.p l.block l.i
-
-abbrev pub decreases-loop-i : goal.decreases-loop-i
-decreases-loop-i l = l.i

@@ -1,5 +1,4 @@
 use mathlib.Core.Path.{refl, ◌∙◌}
-use Prim.Native.Nat.{◌-◌}
 use native.Mathlib.Omega.{arith}
 use mir.Syntax.{w32}
 use mir.Val.{SFits}
@@ -11,16 +10,13 @@ use Rattle.hevc_wanted.proofs.sub.levels_of.Goals as goal
 pub loop-k-init : goal.loop-k-init
 loop-k-init c = taken_begins _ _ refl
 
-pub loop-k-smaller : goal.loop-k-smaller
-loop-k-smaller c = omega arith
-
 pub returns : goal.returns
 returns c =
     let a = c.args in
-    taken_ends a.p (spot a.xs a.ys) a.block.now c.loop-k.levels c.loop-k.k c.loop-k.invariant (omega arith)
+    taken_ends a.p (spot a.xs a.ys) a.block.now c.loop-k.level-items c.loop-k.k c.loop-k.invariant (omega arith)
 
 pub loop-k-preserved : goal.loop-k-preserved
 loop-k-preserved c =
     let a = c.args in
     let f : SFits w32 c.level_at.result = record { sfits = c.level_at.type_inv } in
-    taken_more (level_in a.p (spot a.xs a.ys) a.block.now) c.loop-k.levels c.loop-k.k _ c.loop-k.invariant (omega arith) (to_z-of_z f ∙ c.level_at.ensures)
+    taken_more (level_in a.p (spot a.xs a.ys) a.block.now) c.loop-k.level-items c.loop-k.k _ c.loop-k.invariant (omega arith) (to_z-of_z f ∙ c.level_at.ensures)

@@ -1,4 +1,3 @@
-use Prim.Native.Nat.{◌-◌}
 use Rattle.hevc_wanted.specs.Shown.{is_level}
 use Rattle.hevc_wanted.specs.ShownLaws.{Listed}
 use Rattle.hevc_wanted.proofs.sub.places_of.Given as goal
@@ -6,6 +5,3 @@ use Rattle.hevc_wanted.proofs.sub.places_of.Given as goal
 -- `places_of` meets its contract. Assumes nothing.
 abbrev pub invariant-loop-k : goal.invariant-loop-k
 invariant-loop-k l = Listed (is_level l.levels) l.s l.k
-
-abbrev pub decreases-loop-k : goal.decreases-loop-k
-decreases-loop-k l = l.k

@@ -1,10 +1,6 @@
-use Prim.Native.Nat.{◌-◌}
 use Rattle.hevc_write_refusal.specs.RefusalLaws.{Agreeing}
 use Rattle.hevc_write_refusal.proofs.refusal.any_disagrees.Given as goal
 
 -- `any_disagrees` meets its contract. Assumes nothing.
 abbrev pub invariant-loop-i : goal.invariant-loop-i
 invariant-loop-i l = Agreeing l.p l.h l.block l.i
-
-abbrev pub decreases-loop-i : goal.decreases-loop-i
-decreases-loop-i l = l.n - l.i

@@ -14,7 +14,6 @@ pub returns : goal.returns
 returns c =
     let l = c.args.levels.now in
     let f : SFits w32 (get_or l c.lowest-low.result (pos 0)) = record { sfits = c.is_negative-arg-1.given } in
-    c.differ.ensures
-    ∙ ap₂ (λ (b : Bool) (m : ℕ). not (beq b (odd m)))
+    ap₂ (λ (b : Bool) (m : ℕ). not (beq b (odd m)))
     (c.is_negative-sign.ensures ∙ ap negative (to_z-of_z f) ∙ ap (λ n. negative (get_or l n (pos 0))) c.lowest-low.ensures.0)
     c.sum_of.ensures

@@ -1,6 +1,6 @@
+use Rattle.std.specs.Prelude.{Ok, Err}
 use mathlib.Core.Path.{sym, ap, ◌∙◌}
 use lib.ListN.{length, take}
-use Rattle.hevc_residual.specs.declared.answers.Written.TheVariants as listed
 use Rattle.hevc_writer.specs.Demand3.{promised}
 use Rattle.hevc_writer.specs.EntriesPuts.{refused_first, accepts, front_long, statistics, refused_second, no_room, all_written}
 use Rattle.hevc_writer.proofs.entries.write_bins.Goals as goal
@@ -8,7 +8,7 @@ use Rattle.hevc_writer.proofs.entries.write_bins.Goals as goal
 pub returns-then-a-ne0 : goal.returns-then-a-ne0
 returns-then-a-ne0 c =
     let a = c.args in
-    promised a.p a.stats.now a.block.now a.skip a.rdpcm a.room.now (listed.Refused c.bins_checks-a.result) _ _
+    promised a.p a.stats.now a.block.now a.skip a.rdpcm a.room.now (Err c.bins_checks-a.result) _ _
     (refused_first a.p a.stats.now a.block.now a.skip a.rdpcm a.room.now c.bins_checks-a.result c.bins_checks-a.ensures c.if-a-ne0.true)
 
 pub area_of-requires : goal.area_of-requires
@@ -38,7 +38,7 @@ returns-then-b-ne0 c =
     let a = c.args in
     let pass = sym c.if-a-ne0.false ∙ c.bins_checks-a.ensures in
     let el = ap (λ k. take k a.block.now) c.area_of.ensures in
-    promised a.p a.stats.now a.block.now a.skip a.rdpcm a.room.now (listed.Refused c.write_refusal-b.result) _ _
+    promised a.p a.stats.now a.block.now a.skip a.rdpcm a.room.now (Err c.write_refusal-b.result) _ _
     (refused_second a.p a.stats.now a.block.now a.skip a.rdpcm a.room.now pass (take c.area_of.result a.block.now) el
     c.write_refusal-b.result c.write_refusal-b.ensures c.if-b-ne0.true)
 
@@ -59,7 +59,7 @@ returns-then-not-has_room c =
     let pass = sym c.if-a-ne0.false ∙ c.bins_checks-a.ensures in
     let el = ap (λ k. take k a.block.now) c.area_of.ensures in
     let ok = sym c.write_refusal-b.ensures ∙ c.if-b-ne0.false in
-    promised a.p a.stats.now a.block.now a.skip a.rdpcm a.room.now (listed.Refused 12) _ _
+    promised a.p a.stats.now a.block.now a.skip a.rdpcm a.room.now (Err 12) _ _
     (no_room a.p a.stats.now a.block.now a.skip a.rdpcm a.room.now pass (take c.area_of.result a.block.now) el ok _ c.has_room.ensures.0
     c.has_room.result c.has_room.ensures.1 c.if-not-has_room.true)
 
@@ -80,6 +80,6 @@ returns c =
     let pass = sym c.if-a-ne0.false ∙ c.bins_checks-a.ensures in
     let el = ap (λ k. take k a.block.now) c.area_of.ensures in
     let ok = sym c.write_refusal-b.ensures ∙ c.if-b-ne0.false in
-    promised a.p a.stats.now a.block.now a.skip a.rdpcm a.room.now (listed.List c.put_block-written.result.at) _ _
+    promised a.p a.stats.now a.block.now a.skip a.rdpcm a.room.now (Ok c.put_block-written.result.at) _ _
     (all_written a.p a.stats.now a.block.now a.skip a.rdpcm a.room.now pass (take c.area_of.result a.block.now) el ok _ c.has_room.ensures.0
     c.has_room.result c.has_room.ensures.1 c.if-not-has_room.false _ _ c.put_block-written.result c.put_block-written.ensures)

@@ -11,9 +11,6 @@ loop-k-init c = let a = c.args in bits_begin a.n a.v (sheet a.room.now a.pen) c.
 pub overflow_shr-v : goal.overflow_shr-v
 overflow_shr-v c = omega (arith, c.loop-k.invariant.few, c.requires.0)
 
-pub loop-k-smaller : goal.loop-k-smaller
-loop-k-smaller c = omega arith
-
 pub loop-k-preserved : goal.loop-k-preserved
 loop-k-preserved c =
     let a = c.args in

@@ -1,6 +1,6 @@
 use native.Mathlib.Omega.{arith}
 use mathlib.Core.Path.{◌≡◌, refl, sym, ap, subst, ◌∙◌}
-use Prim.Native.Nat.{ℕ, ◌+◌, ◌-◌}
+use Prim.Native.Nat.{ℕ, ◌+◌}
 use mathlib.Core.Bool.{true, false}
 use lib.Dec.{ltb}
 use Rattle.bins.specs.Syn.{done}
@@ -24,35 +24,32 @@ loop-g-init c =
 pub put_bin-y-requires : goal.put_bin-y-requires
 put_bin-y-requires c =
     let a = c.args in
-    omega (arith, then_below a.first a.later 32768 c.loop-g.g c.requires.0 c.requires.1, c.loop-g.invariant.1)
-
-pub loop-g-smaller : goal.loop-g-smaller
-loop-g-smaller c = omega arith
+    omega (arith, then_below a.first a.later 32768 c.loop-g._g c.requires.0 c.requires.1, c.loop-g.invariant.1)
 
 pub loop-g-preserved : goal.loop-g-preserved
 loop-g-preserved c =
     let a = c.args in (
       subst (Ones (count_counter {B = ℕ} (first_then a.first a.later)) (count_putter (first_then a.first a.later)) a.n a.most
-          (sheet a.room.now a.pen) (c.loop-g.g + 1)) (sym (c.put_bin-y.ensures ∙ ap (λ k. entered (tag k true) (sheet c.loop-g.room c.loop-g.y)) c.loop-g.invariant.1))
+          (sheet a.room.now a.pen) (c.loop-g._g + 1)) (sym (c.put_bin-y.ensures ∙ ap (λ k. entered (tag k true) (sheet c.loop-g.room c.loop-g.y)) c.loop-g.invariant.1))
           (ones_more (count_counter {B = ℕ} (first_then a.first a.later)) (count_putter (first_then a.first a.later)) a.n a.most
-          (sheet a.room.now a.pen) c.loop-g.g (sheet c.loop-g.room c.loop-g.y) c.loop-g.invariant.0 c.loop-g-test.true),
-      then_later a.first a.later c.loop-g.g,
+          (sheet a.room.now a.pen) c.loop-g._g (sheet c.loop-g.room c.loop-g.y) c.loop-g.invariant.0 (omega arith)),
+      then_later a.first a.later c.loop-g._g,
     )
 
 pub put_bin-requires : goal.put_bin-requires
 put_bin-requires c =
     let a = c.args in
-    omega (arith, then_below a.first a.later 32768 c.loop-g.g c.requires.0 c.requires.1, c.loop-g.invariant.1)
+    omega (arith, then_below a.first a.later 32768 c.loop-g._g c.requires.0 c.requires.1, c.loop-g.invariant.1)
 
 pub returns-then-n-most : goal.returns-then-n-most
 returns-then-n-most c =
     λ w.
     let a = c.args in
-    let e : c.loop-g.g ≡ a.n = omega (arith, c.loop-g.invariant.0.few, c.loop-g-test.false) in
+    let e : c.loop-g._g ≡ a.n = omega (arith, c.loop-g.invariant.0.few) in
     subst (Wrote (count_p (first_then a.first a.later) a.most a.n) (done a.n) w (sheet a.room.now a.pen))
     (sym (c.put_bin.ensures ∙ ap (λ k. entered (tag k false) (sheet c.loop-g.room c.loop-g.y)) (c.loop-g.invariant.1 ∙ ap (first_then a.first a.later) e)))
     (ones_zero (count_counter {B = ℕ} (first_then a.first a.later)) (count_putter (first_then a.first a.later)) a.n a.most
-    (sheet a.room.now a.pen) c.loop-g.g (sheet c.loop-g.room c.loop-g.y) c.loop-g.invariant.0 c.loop-g-test.false c.if-n-most.true (λ g x. ltb g a.n) w
+    (sheet a.room.now a.pen) c.loop-g._g (sheet c.loop-g.room c.loop-g.y) c.loop-g.invariant.0 (omega arith) c.if-n-most.true (λ g x. ltb g a.n) w
     (counts_plain a.n a.most w))
 
 pub shape_of-room : goal.shape_of-room
@@ -63,5 +60,5 @@ returns c =
     λ w.
     let a = c.args in
     ones_most (count_counter {B = ℕ} (first_then a.first a.later)) (count_putter (first_then a.first a.later)) a.n a.most
-    (sheet a.room.now a.pen) c.loop-g.g (sheet c.loop-g.room c.loop-g.y) c.loop-g.invariant.0 c.loop-g-test.false c.if-n-most.false (λ g x. ltb g a.n) w
+    (sheet a.room.now a.pen) c.loop-g._g (sheet c.loop-g.room c.loop-g.y) c.loop-g.invariant.0 (omega arith) c.if-n-most.false (λ g x. ltb g a.n) w
     (counts_plain a.n a.most w)

@@ -1,5 +1,5 @@
 use mathlib.Core.Path.{◌≡◌}
-use Prim.Native.Nat.{ℕ, ◌-◌}
+use Prim.Native.Nat.{ℕ}
 use Rattle.trees.specs.Shapes.{first_then}
 use Rattle.trees.specs.Counters.{count_counter}
 use Rattle.pen.specs.Sheet.{sheet}
@@ -8,8 +8,5 @@ use Rattle.pen_shapes.proofs.plain.put_count.Given as goal
 
 -- `put_count` meets its contract. Assumes nothing.
 abbrev pub invariant-loop-g : goal.invariant-loop-g
-invariant-loop-g l = Ones (count_counter {B = ℕ} (first_then l.first l.later)) (count_putter (first_then l.first l.later)) l.n l.most (sheet l.initial.room l.initial.y) l.g (sheet l.room l.y) ×
-    (l.number ≡ first_then l.first l.later l.g)
-
-abbrev pub decreases-loop-g : goal.decreases-loop-g
-decreases-loop-g l = l.n - l.g
+invariant-loop-g l = Ones (count_counter {B = ℕ} (first_then l.first l.later)) (count_putter (first_then l.first l.later)) l.n l.most (sheet l.initial.room l.initial.y) l._g (sheet l.room l.y) ×
+    (l.number ≡ first_then l.first l.later l._g)

@@ -20,13 +20,13 @@ pub slice_bounds-list-end : goal.slice_bounds-list-end
 slice_bounds-list-end c =
     let a = c.args in
     list_fits (length a.room.now) _ a.head.now a.values.now a.levels.now c.handed_refusal-a.ensures c.if-a-ne0.false _
-    c.params.ensures _ _ _ c.write_bins-w.ensures.0 _ c.in-List.is
+    c.params.ensures _ _ _ c.write_bins-w.ensures.0 _ c.in-Ok.is
 
 pub slice_bounds-pack_drawing-end : goal.slice_bounds-pack_drawing-end
 slice_bounds-pack_drawing-end c =
     let a = c.args in
     list_count (length a.room.now) _ a.head.now a.values.now a.levels.now c.handed_refusal-a.ensures c.if-a-ne0.false _
-    c.params.ensures _ _ _ c.write_bins-w.ensures.0 _ c.in-List.is
+    c.params.ensures _ _ _ c.write_bins-w.ensures.0 _ c.in-Ok.is
 
 pub pack_drawing-requires : goal.pack_drawing-requires
 pack_drawing-requires c =
@@ -34,19 +34,19 @@ pack_drawing-requires c =
     let h = handed (length a.room.now) a.head.now a.values.now (sym c.handed_refusal-a.ensures ∙ c.if-a-ne0.false) in
     (h.six, h.many, h.wide)
 
-pub returns-in-List : goal.returns-in-List
-returns-in-List c =
+pub returns-in-Ok : goal.returns-in-Ok
+returns-in-Ok c =
     let a = c.args in
     let x = c.pack_drawing.ensures in (
       list_said (length a.room.now) _ a.head.now a.values.now a.levels.now c.handed_refusal-a.ensures c.if-a-ne0.false _
-          c.params.ensures _ _ _ c.write_bins-w.ensures.0 _ _ c.in-List.is x.0,
+          c.params.ensures _ _ _ c.write_bins-w.ensures.0 _ _ c.in-Ok.is x.0,
       x.1,
     )
 
-pub returns-in-Refused : goal.returns-in-Refused
-returns-in-Refused c =
+pub returns-in-Err : goal.returns-in-Err
+returns-in-Err c =
     let a = c.args in (
       list_no_lem (length a.room.now) _ a.head.now a.values.now a.levels.now c.handed_refusal-a.ensures c.if-a-ne0.false _
-          c.params.ensures _ _ _ c.write_bins-w.ensures.0 _ c.in-Refused.is,
+          c.params.ensures _ _ _ c.write_bins-w.ensures.0 _ c.in-Err.is,
       refl,
     )

@@ -15,7 +15,7 @@ pub grid-n-requires : goal.grid-n-requires
 grid-n-requires c = let a = c.requires.0 in (a.least, a.most)
 
 pub loop-i-init : goal.loop-i-init
-loop-i-init c = let a = c.args in (omega arith, none_begins (is_off_in a.p a.block.now))
+loop-i-init c = let a = c.args in none_begins (is_off_in a.p a.block.now)
 
 pub off_at-requires : goal.off_at-requires
 off_at-requires c = (
@@ -23,24 +23,21 @@ off_at-requires c = (
   c.outer_order-outer.ensures,
   c.requires.0,
   c.requires.1,
-  omega (arith, c.loop-i-test.true, c.grid-n.ensures.0),
+  omega (arith, c.grid-n.ensures.0),
 )
 
 pub returns-then-off_at : goal.returns-then-off_at
 returns-then-off_at c =
     let a = c.args in
-    first_found (is_off_in a.p a.block.now) (4 ^ (a.p.log2 - 2)) c.loop-i.i c.loop-i.invariant.1 (omega (arith, c.grid-n.ensures.0, c.loop-i-test.true))
+    first_found (is_off_in a.p a.block.now) (4 ^ (a.p.log2 - 2)) c.loop-i.i c.loop-i.invariant (omega (arith, c.grid-n.ensures.0))
     (sym c.off_at.ensures ∙ c.if-off_at.true)
-
-pub loop-i-smaller : goal.loop-i-smaller
-loop-i-smaller c = omega (arith, c.loop-i-test.true)
 
 pub loop-i-preserved : goal.loop-i-preserved
 loop-i-preserved c =
     let a = c.args in
-    (omega (arith, c.loop-i-test.true), none_on (is_off_in a.p a.block.now) c.loop-i.i c.loop-i.invariant.1 (sym c.off_at.ensures ∙ c.if-off_at.false))
+    none_on (is_off_in a.p a.block.now) c.loop-i.i c.loop-i.invariant (sym c.off_at.ensures ∙ c.if-off_at.false)
 
 pub returns : goal.returns
 returns c =
     let a = c.args in
-    first_none (is_off_in a.p a.block.now) (4 ^ (a.p.log2 - 2)) c.loop-i.i _ c.loop-i.invariant.1 (omega (arith, c.loop-i.invariant.0, c.grid-n.ensures.0)) (omega (arith, c.loop-i-test.false, c.grid-n.ensures.0)) c.grid-n.ensures.0
+    first_none (is_off_in a.p a.block.now) (4 ^ (a.p.log2 - 2)) c.loop-i.i _ c.loop-i.invariant (omega (arith, c.grid-n.ensures.0)) (omega (arith, c.grid-n.ensures.0)) c.grid-n.ensures.0

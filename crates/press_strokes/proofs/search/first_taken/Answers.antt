@@ -1,5 +1,5 @@
 use native.Mathlib.Omega.{arith}
-use Prim.Native.Nat.{◌-◌, ◌*◌}
+use Prim.Native.Nat.{◌*◌}
 use Rattle.hevc_residual.specs.Wanted.{area}
 use Rattle.press_strokes.specs.Advice.{is_taken}
 use Rattle.press_strokes.specs.FirstLaws.{none_begins, none_on, first_found, first_none}
@@ -14,28 +14,22 @@ pub overflow_mul-n : goal.overflow_mul-n
 overflow_mul-n c = omega (arith, c.area_of-n.ensures, area_few c.args.p c.requires.0.most)
 
 pub loop-c-init : goal.loop-c-init
-loop-c-init c = let a = c.args in (omega arith, none_begins (is_taken a.p a.levels.now))
+loop-c-init c = let a = c.args in none_begins (is_taken a.p a.levels.now)
 
 pub is_taken-requires : goal.is_taken-requires
-is_taken-requires c = (c.requires.0, omega (arith, c.loop-c-test.true, c.area_of-n.ensures), c.requires.1)
+is_taken-requires c = (c.requires.0, omega (arith, c.area_of-n.ensures), c.requires.1)
 
 pub returns-then-is_taken : goal.returns-then-is_taken
 returns-then-is_taken c =
     let a = c.args in
-    first_found (is_taken a.p a.levels.now) (3 * area a.p) c.loop-c.c c.loop-c.invariant.1 (omega (arith, c.loop-c-test.true, c.area_of-n.ensures)) (sym c.is_taken.ensures ∙ c.if-is_taken.true)
-
-pub overflow_add-c : goal.overflow_add-c
-overflow_add-c c = record { fits = omega (arith, c.loop-c-test.true, c.area_of-n.ensures, area_few c.args.p c.requires.0.most) }
-
-pub loop-c-smaller : goal.loop-c-smaller
-loop-c-smaller c = omega (arith, c.loop-c-test.true)
+    first_found (is_taken a.p a.levels.now) (3 * area a.p) c.loop-c.c c.loop-c.invariant (omega (arith, c.area_of-n.ensures)) (sym c.is_taken.ensures ∙ c.if-is_taken.true)
 
 pub loop-c-preserved : goal.loop-c-preserved
 loop-c-preserved c =
     let a = c.args in
-    (omega (arith, c.loop-c-test.true), none_on (is_taken a.p a.levels.now) c.loop-c.c c.loop-c.invariant.1 (sym c.is_taken.ensures ∙ c.if-is_taken.false))
+    none_on (is_taken a.p a.levels.now) c.loop-c.c c.loop-c.invariant (sym c.is_taken.ensures ∙ c.if-is_taken.false)
 
 pub returns : goal.returns
 returns c =
     let a = c.args in
-    first_none (is_taken a.p a.levels.now) (3 * area a.p) c.loop-c.c _ c.loop-c.invariant.1 (omega (arith, c.loop-c.invariant.0, c.area_of-n.ensures)) (omega (arith, c.loop-c-test.false, c.area_of-n.ensures)) (omega (arith, c.area_of-n.ensures))
+    first_none (is_taken a.p a.levels.now) (3 * area a.p) c.loop-c.c _ c.loop-c.invariant (omega (arith, c.area_of-n.ensures)) (omega (arith, c.area_of-n.ensures)) (omega (arith, c.area_of-n.ensures))

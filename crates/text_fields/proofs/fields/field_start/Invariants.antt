@@ -6,7 +6,4 @@ use Rattle.text_fields.proofs.fields.field_start.Given as goal
 
 -- `field_start` meets its contract. Assumes nothing.
 abbrev pub invariant-loop-left : goal.invariant-loop-left
-invariant-loop-left l = (l.from ≤ length l.s) × (from_field (drop l.from l.s) l.left ≡ from_field l.s l.k)
-
-abbrev pub decreases-loop-left : goal.decreases-loop-left
-decreases-loop-left l = l.left
+invariant-loop-left l = (l.from ≤ length l.s) × (from_field (drop l.from l.s) l._left ≡ from_field l.s l.k)

@@ -1,4 +1,6 @@
 use native.Mathlib.Omega.{arith}
+use mathlib.Core.Path.{◌≡◌, ◌∙◌}
+use lib.ListN.{length}
 use Rattle.text_fields.specs.OctetsLaws.{writing_begun, writing_more, writing_full, writing_ended, writing_stopped}
 use Rattle.text_octets.proofs.octets.put_octets.Goals as goal
 
@@ -16,9 +18,10 @@ returns-in_default c =
     record { value = w.0; out_after = w.1.0; result_in_bounds = w.1.1 }
 
 pub loop-i-preserved : goal.loop-i-preserved
-loop-i-preserved c = writing_more _ _ _ _ c.loop-i.invariant _ _ (omega arith) (omega arith) c.hex_byte.ensures c.in-Is.is
+loop-i-preserved c = writing_more _ _ _ _ c.loop-i.invariant _ _ (omega arith) (omega arith) c.hex_byte.ensures c.in-Some.is
 
 pub returns : goal.returns
 returns c =
     let w = writing_full _ _ _ _ c.loop-i.invariant (omega arith) in
-    record { value = w.0; out_after = w.1.0; result_in_bounds = w.1.1 }
+    let q : length c.loop-i.out ≡ c.loop-i.i = omega arith in
+    record { value = q ∙ w.0; out_after = w.1.0; result_in_bounds = omega (arith, w.1.1) }

@@ -1,8 +1,0 @@
-use Rattle.case_trays.proofs.trays.copies.Given as goal
-
--- `copies` meets its contract. Assumes nothing.
-abbrev pub invariant-loop-left : goal.invariant-loop-left
-invariant-loop-left l = Unit {0}
-
-abbrev pub decreases-loop-left : goal.decreases-loop-left
-decreases-loop-left l = l.left
