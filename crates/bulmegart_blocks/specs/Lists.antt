@@ -1,6 +1,6 @@
 -- What the writer of bins answers and leaves behind in C's form.
 use Prim.Native.Nat.{ℕ, zero, suc, ◌≤◌, ◌<◌}
-use Rattle.std.specs.Prelude.{◌≡◌, List, Bool, cond, ℤ, ltb, Result}
+use Rattle.std.specs.Prelude.{◌≡◌, List, Bool, cond, ℤ, ltb, Result, Ok, Err}
 use Rattle.std.proofs.Math.Path.{refl, sym, ap}
 use Rattle.std.proofs.Common.{◌∙◌, arith, lt-ltb, le-ltb}
 use Rattle.cabac.specs.Numbers.{Answer, accepted, refused, ◌or_else◌}
@@ -26,6 +26,12 @@ choice_of (suc (suc n)) = rdpcm.Vertical
 abbrev pub write_given : Answer ℕ → WriteAnswer
 write_given (accepted n) = record { number = 0; length = n }
 write_given (refused n) = record { number = n; length = 0 }
+
+-- another writer that says the same of a length and of a number is answered so too
+pub written_like : (f : Result ℕ ℕ → Answer ℕ) → ((n : ℕ) → accepted n ≡ f (Ok n)) → ((n : ℕ) → refused n ≡ f (Err n)) → (r : Result ℕ ℕ)
+    → write_given (written_says r) ≡ write_given (f r)
+written_like f lengths numbers (Ok n) = ap write_given (lengths n)
+written_like f lengths numbers (Err n) = ap write_given (numbers n)
 
 -- ---- the writer: 4 of the flags and of the choice, then as document 01 has it
 pub record WriteLeft : Type 0 where

@@ -32,16 +32,17 @@ pub struct ListAnswer {
     pub found: BlockFound,
 }
 
-fn found_of(f: Found) -> BlockFound
-    ensures { result ≡ found_given (found_seen f) }
-{
-    let rdpcm = f.rdpcm;
-    BlockFound {
-        skip: flag_byte(f.skip),
-        rdpcm: rdpcm_number(rdpcm),
-        column: f.column,
-        row: f.row,
-        greatest: f.greatest,
+impl From<Found> for BlockFound {
+    ghost from_gives = { λ f g. g ≡ found_given (found_seen f) };
+
+    fn from(f: Found) -> BlockFound {
+        BlockFound {
+            skip: flag_byte(f.skip),
+            rdpcm: rdpcm_number(f.rdpcm),
+            column: f.column,
+            row: f.row,
+            greatest: f.greatest,
+        }
     }
 }
 
@@ -63,7 +64,7 @@ pub fn block_answer(r: Read, s: EngineState) -> BlockAnswer
     match r {
         Ok(b) => BlockAnswer {
             number: 0,
-            found: found_of(b.found),
+            found: b.found.into(),
             state: b.state.into(),
         },
         Err(n) => BlockAnswer {
@@ -74,17 +75,19 @@ pub fn block_answer(r: Read, s: EngineState) -> BlockAnswer
     }
 }
 
-pub fn list_answer(r: ReadList) -> ListAnswer
-    ensures { result ≡ list_given (list_says r) }
-{
-    match r {
-        Ok(f) => ListAnswer {
-            number: 0,
-            found: found_of(f),
-        },
-        Err(n) => ListAnswer {
-            number: n,
-            found: no_found(),
-        },
+impl From<ReadList> for ListAnswer {
+    ghost from_gives = { λ r a. a ≡ list_given (list_says r) };
+
+    fn from(r: ReadList) -> ListAnswer {
+        match r {
+            Ok(f) => ListAnswer {
+                number: 0,
+                found: f.into(),
+            },
+            Err(n) => ListAnswer {
+                number: n,
+                found: no_found(),
+            },
+        }
     }
 }

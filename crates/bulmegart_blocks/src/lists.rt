@@ -46,17 +46,19 @@ pub fn write_handed(p: BlockParams, skip: u8, rdpcm: u8) -> u32
     )
 }
 
-pub fn write_answer(r: Written) -> WriteAnswer
-    ensures { result ≡ write_given (written_says r) }
-{
-    match r {
-        Ok(n) => WriteAnswer {
-            number: 0,
-            length: n,
-        },
-        Err(n) => WriteAnswer {
-            number: n,
-            length: 0,
-        },
+impl From<Written> for WriteAnswer {
+    ghost from_gives = { λ r a. a ≡ write_given (written_says r) };
+
+    fn from(r: Written) -> WriteAnswer {
+        match r {
+            Ok(n) => WriteAnswer {
+                number: 0,
+                length: n,
+            },
+            Err(n) => WriteAnswer {
+                number: n,
+                length: 0,
+            },
+        }
     }
 }

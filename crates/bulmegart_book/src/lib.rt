@@ -39,14 +39,16 @@ fn handed_refusal(buffer: usize, line: u64, held: usize, lines: usize, room: usi
     0
 }
 
-fn answer_of(a: Answering) -> BookAnswer
-    ensures { (result.number ≡ 0) × (result.line ≡ a.line.number) × (result.held ≡ a.line.held) × (result.written ≡ a.out) }
-{
-    BookAnswer {
-        number: 0,
-        line: a.line.number,
-        held: a.line.held,
-        written: a.out,
+impl From<Answering> for BookAnswer {
+    ghost from_gives = { λ a r. (r.number ≡ 0) × (r.line ≡ a.line.number) × (r.held ≡ a.line.held) × (r.written ≡ a.out) };
+
+    fn from(a: Answering) -> BookAnswer {
+        BookAnswer {
+            number: 0,
+            line: a.line.number,
+            held: a.line.held,
+            written: a.out,
+        }
     }
 }
 
@@ -72,8 +74,7 @@ pub extern "C" fn bulmegart_book_feed(
         };
     }
     let p = Pending { number: line, held };
-    let a = feed(piece, buffer, p, tally, room);
-    answer_of(a)
+    feed(piece, buffer, p, tally, room).into()
 }
 
 // The end of a book: the answer to what stands behind its last line feed.
@@ -97,6 +98,5 @@ pub extern "C" fn bulmegart_book_finish(
         };
     }
     let p = Pending { number: line, held };
-    let a = finish(buffer, p, tally, room);
-    answer_of(a)
+    finish(buffer, p, tally, room).into()
 }

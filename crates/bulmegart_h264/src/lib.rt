@@ -3,17 +3,15 @@
 #![tactic(auto)]
 
 ghost use Rattle.std.specs.Prelude.{◌≡◌};
-ghost use Rattle.bulmegart_blocks.specs.Lists.{write_given};
 ghost use Rattle.h264_block.specs.Contexts.{pairs_refusal, contexts_after};
 ghost use Rattle.h264_reader.specs.EntriesAgree.{read_says, list_says};
-ghost use Rattle.h264_writer.specs.EntriesPuts.{written_says};
 ghost use Rattle.bulmegart_h264.specs.Exported.{block_given, list_given, block_left, list_left, list_written, read_block, read_list, write_list};
 
 use bulmegart::records::{EngineState, state_handed};
 use bulmegart_blocks::lists::WriteAnswer;
 use h264_contexts::contexts::init_pairs;
 use h264_reader::entries::{Found, Read, ReadList, read_bins, residual_block};
-use h264_writer::entries::{Written, write_bins};
+use h264_writer::entries::write_bins;
 
 // The greatest magnitude is 0 after a refusal, and the state the one handed in.
 #[repr(C)]
@@ -48,30 +46,20 @@ fn block_answer(r: Read, s: EngineState) -> H264BlockAnswer
     }
 }
 
-fn list_answer(r: ReadList) -> H264ListAnswer
-    ensures { result ≡ list_given (list_says r) }
-{
-    match r {
-        Ok(greatest) => H264ListAnswer {
-            number: 0,
-            greatest,
-        },
-        Err(n) => H264ListAnswer {
-            number: n,
-            greatest: 0,
-        },
-    }
-}
+impl From<ReadList> for H264ListAnswer {
+    ghost from_gives = { λ r a. a ≡ list_given (list_says r) };
 
-fn write_answer(r: Written) -> WriteAnswer
-    ensures { result ≡ write_given (written_says r) }
-{
-    match r {
-        Ok(length) => WriteAnswer { number: 0, length },
-        Err(n) => WriteAnswer {
-            number: n,
-            length: 0,
-        },
+    fn from(r: ReadList) -> H264ListAnswer {
+        match r {
+            Ok(greatest) => H264ListAnswer {
+                number: 0,
+                greatest,
+            },
+            Err(n) => H264ListAnswer {
+                number: n,
+                greatest: 0,
+            },
+        }
     }
 }
 
@@ -106,8 +94,7 @@ pub extern "C" fn bulmegart_h264_residual_block(
 pub extern "C" fn bulmegart_h264_read_bins(list: &[u8], levels: &mut [i32]) -> H264ListAnswer
     ensures { list_left result levels.new ≡ read_list list.now levels.old }
 {
-    let r = read_bins(list, levels);
-    list_answer(r)
+    read_bins(list, levels).into()
 }
 
 // One block as a bin list in the room.
@@ -115,6 +102,5 @@ pub extern "C" fn bulmegart_h264_read_bins(list: &[u8], levels: &mut [i32]) -> H
 pub extern "C" fn bulmegart_h264_write_bins(levels: &[i32], room: &mut [u8]) -> WriteAnswer
     ensures { list_written result room.new ≡ write_list levels.now room.old }
 {
-    let r = write_bins(levels, room);
-    write_answer(r)
+    WriteAnswer::from(write_bins(levels, room))
 }

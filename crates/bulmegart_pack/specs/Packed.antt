@@ -5,17 +5,22 @@ use Rattle.std.proofs.Math.Path.{refl, ap}
 use Rattle.std.proofs.Common.{sym, ◌∙◌, arith}
 use Rattle.cabac.specs.Numbers.{Answer, accepted, refused}
 use Rattle.hevc_residual.specs.declared.params.Params.{Params}
+use Rattle.hevc_residual.specs.Answers.{written_says}
 use Rattle.packing.specs.Entries.{BinsPacked}
 use Rattle.packer.specs.IntoCode.{packing_says}
 use Rattle.hevc_packer.specs.Entries.{pack_bins}
 use Rattle.bulmegart.specs.declared.records.BlockParams.{BlockParams}
 use Rattle.bulmegart_blocks.specs.declared.lists.WriteAnswer.{WriteAnswer}
 use Rattle.bulmegart.specs.Records.{params_flags, params_of}
-use Rattle.bulmegart_blocks.specs.Lists.{write_given}
+use Rattle.bulmegart_blocks.specs.Lists.{write_given, written_like}
 
 abbrev pub packing_answer : Result ℕ ℕ → Answer ℕ
 packing_answer (Ok n) = accepted n
 packing_answer (Err n) = refused n
+
+-- a packed list is answered as a written one
+pub packed_same : (r : Result ℕ ℕ) → write_given (written_says r) ≡ write_given (packing_answer r)
+packed_same = written_like packing_answer (λ n. refl) (λ n. refl)
 
 pub record PackLeft : Type 0 where
   pub answer : WriteAnswer

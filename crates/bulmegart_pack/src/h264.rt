@@ -3,7 +3,6 @@ ghost use Rattle.std.specs.Prelude.{◌≡◌};
 ghost use Rattle.h264_packer.specs.Entries.{pack_bins};
 ghost use Rattle.bulmegart_pack.specs.Packed.{pack_left, pack_seen};
 
-use crate::packs::pack_answer;
 use bulmegart_blocks::lists::WriteAnswer;
 use h264_packer::entries::pack_bins;
 
@@ -16,6 +15,5 @@ pub extern "C" fn bulmegart_h264_pack_bins(
 ) -> WriteAnswer
     ensures { pack_left result room.new ≡ pack_seen (pack_bins contexts.now list.now room.old) }
 {
-    let r = pack_bins(contexts, list, room);
-    pack_answer(r)
+    pack_bins(contexts, list, room).into()
 }

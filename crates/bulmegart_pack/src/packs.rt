@@ -1,30 +1,13 @@
 // A block's list, and a scale's, as a payload in the room. The answer's length is 0 after a refusal.
 ghost use Rattle.std.specs.Prelude.{◌≡◌};
-ghost use Rattle.bulmegart_blocks.specs.Lists.{write_given};
 ghost use Rattle.hevc_packer.specs.Entries.{pack_scale};
-ghost use Rattle.bulmegart_pack.specs.Packed.{packing_answer, pack_left, pack_seen, pack_block};
+ghost use Rattle.bulmegart_pack.specs.Packed.{pack_left, pack_seen, pack_block};
 
 use bins::tags::CONTEXTS;
 use bulmegart::records::{BlockParams, params_flags};
 use bulmegart_blocks::lists::WriteAnswer;
 use hevc_block_packer::entries::pack_bins;
 use hevc_packer::entries::pack_scale;
-use packer::list::Packing;
-
-pub fn pack_answer(r: Packing) -> WriteAnswer
-    ensures { result ≡ write_given (packing_answer r) }
-{
-    match r {
-        Ok(n) => WriteAnswer {
-            number: 0,
-            length: n,
-        },
-        Err(n) => WriteAnswer {
-            number: n,
-            length: 0,
-        },
-    }
-}
 
 // One block's list. Contexts and statistics are read only.
 #[unsafe(no_mangle)]
@@ -39,10 +22,10 @@ pub extern "C" fn bulmegart_pack_bins(
 {
     let n = params_flags(params);
     if n != 0 {
-        return pack_answer(Err(n));
+        return WriteAnswer::from(Err(n));
     }
     let r = pack_bins(contexts, statistics, params.into(), list, room);
-    pack_answer(r)
+    WriteAnswer::from(r)
 }
 
 // One scale's list, of chroma component 0 or 1.
@@ -55,6 +38,5 @@ pub extern "C" fn bulmegart_pack_scale(
 ) -> WriteAnswer
     ensures { pack_left result room.new ≡ pack_seen (pack_scale contexts.now component list.now room.old) }
 {
-    let r = pack_scale(contexts, component, list, room);
-    pack_answer(r)
+    pack_scale(contexts, component, list, room).into()
 }

@@ -3,8 +3,8 @@ ghost use Rattle.std.specs.Prelude.{◌≡◌};
 ghost use Rattle.hevc_tray_packer.specs.Rows.{pack_rows};
 ghost use Rattle.bulmegart_pack.specs.Trays.{tray_left, tray_seen};
 
-use crate::packs::pack_answer;
 use bins::tags::CONTEXTS;
+use bulmegart_blocks::lists::WriteAnswer;
 use hevc_tray_packer::entries::pack_tray;
 
 // How many lists were read, which the number 13 is about the one behind; the length is 0 after a refusal.
@@ -28,12 +28,10 @@ pub extern "C" fn bulmegart_pack_tray(
     ensures { tray_left result room.new ≡ tray_seen (pack_rows contexts.now statistics.now records.now lists.now room.old) }
 {
     let t = pack_tray(contexts, statistics, records, lists, room);
-    let done = t.done;
-    let packing = t.packing;
-    let a = pack_answer(packing);
+    let a = WriteAnswer::from(t.packing);
     PackTrayAnswer {
         number: a.number,
-        done,
+        done: t.done,
         length: a.length,
     }
 }

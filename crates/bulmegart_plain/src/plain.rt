@@ -15,6 +15,7 @@ pub struct ParamsAnswer {
     pub params: BlockParams,
 }
 
+// No `From`: both types are other crates', and a crate converts only to or from its own.
 fn params_given(p: Params) -> BlockParams
     ensures { result ≡ params_given p }
 {
@@ -36,33 +37,35 @@ fn params_given(p: Params) -> BlockParams
     }
 }
 
-fn params_answer(r: Result<Params, u32>) -> ParamsAnswer
-    ensures { result ≡ record_given (made_says r) }
-{
-    match r {
-        Ok(p) => ParamsAnswer {
-            number: 0,
-            params: params_given(p),
-        },
-        Err(n) => ParamsAnswer {
-            number: n,
-            params: BlockParams {
-                log2: 0,
-                scan: 0,
-                depth: 0,
-                luma: 0,
-                hiding: 0,
-                skip_allowed: 0,
-                lossless: 0,
-                persistent: 0,
-                skip_context: 0,
-                explicit_rdpcm: 0,
-                implicit_rdpcm: 0,
-                inter: 0,
-                aligning: 0,
-                extended: 0,
+impl From<Result<Params, u32>> for ParamsAnswer {
+    ghost from_gives = { λ r a. a ≡ record_given (made_says r) };
+
+    fn from(r: Result<Params, u32>) -> ParamsAnswer {
+        match r {
+            Ok(p) => ParamsAnswer {
+                number: 0,
+                params: params_given(p),
             },
-        },
+            Err(n) => ParamsAnswer {
+                number: n,
+                params: BlockParams {
+                    log2: 0,
+                    scan: 0,
+                    depth: 0,
+                    luma: 0,
+                    hiding: 0,
+                    skip_allowed: 0,
+                    lossless: 0,
+                    persistent: 0,
+                    skip_context: 0,
+                    explicit_rdpcm: 0,
+                    implicit_rdpcm: 0,
+                    inter: 0,
+                    aligning: 0,
+                    extended: 0,
+                },
+            },
+        }
     }
 }
 
@@ -91,7 +94,7 @@ pub extern "C" fn bulmegart_plain_params(
 {
     let n = record_flags(luma, hiding, skip_allowed, lossless, inter);
     if n != 0 {
-        return params_answer(Err(n));
+        return ParamsAnswer::from(Err(n));
     }
     let r = plain_params(
         log2,
@@ -102,5 +105,5 @@ pub extern "C" fn bulmegart_plain_params(
         is_set(lossless),
         is_set(inter),
     );
-    params_answer(r)
+    ParamsAnswer::from(r)
 }

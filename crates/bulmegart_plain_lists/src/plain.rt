@@ -4,7 +4,7 @@ ghost use Rattle.bulmegart_blocks.specs.Blocks.{list_left};
 ghost use Rattle.bulmegart_plain.specs.Plain.{read_plain_list};
 
 use bulmegart::records::{BlockParams, params_flags};
-use bulmegart_blocks::blocks::{ListAnswer, list_answer};
+use bulmegart_blocks::blocks::ListAnswer;
 use hevc_plain_coding::entries::read_bins_plain;
 
 // One plain block from a bin list, which it must end.
@@ -19,8 +19,8 @@ pub extern "C" fn bulmegart_read_bins_plain(
 {
     let n = params_flags(params);
     if n != 0 {
-        return list_answer(Err(n));
+        return ListAnswer::from(Err(n));
     }
     let r = read_bins_plain(list, statistics, params.into(), levels);
-    list_answer(r)
+    ListAnswer::from(r)
 }

@@ -4,7 +4,7 @@ ghost use Rattle.bulmegart_blocks.specs.Lists.{write_left};
 ghost use Rattle.bulmegart_plain.specs.Plain.{write_plain_block};
 
 use bulmegart::records::{BlockParams, is_set};
-use bulmegart_blocks::lists::{WriteAnswer, choice_of, write_answer, write_handed};
+use bulmegart_blocks::lists::{WriteAnswer, choice_of, write_handed};
 use hevc_plain_writer::entries::write_bins_plain;
 
 // One plain block as a bin list in the room.
@@ -21,7 +21,7 @@ pub extern "C" fn bulmegart_write_bins_plain(
 {
     let n = write_handed(params, skip, rdpcm);
     if n != 0 {
-        return write_answer(Err(n));
+        return WriteAnswer::from(Err(n));
     }
     let r = write_bins_plain(
         params.into(),
@@ -31,5 +31,5 @@ pub extern "C" fn bulmegart_write_bins_plain(
         choice_of(rdpcm),
         room,
     );
-    write_answer(r)
+    WriteAnswer::from(r)
 }

@@ -16,12 +16,14 @@ pub struct PressAnswer {
     pub length: usize,
 }
 
-fn answer_of(p: Pressed) -> PressAnswer
-    ensures { result ≡ answer_of p }
-{
-    match p {
-        Ok(length) => PressAnswer { number: 0, length },
-        Err(number) => PressAnswer { number, length: 0 },
+impl From<Pressed> for PressAnswer {
+    ghost from_gives = { λ p a. a ≡ answer_of p };
+
+    fn from(p: Pressed) -> PressAnswer {
+        match p {
+            Ok(length) => PressAnswer { number: 0, length },
+            Err(number) => PressAnswer { number, length: 0 },
+        }
     }
 }
 
@@ -35,5 +37,5 @@ pub extern "C" fn bulmegart_press(
 ) -> PressAnswer
     ensures { Given room.old head.now values.now levels.now result room.new }
 {
-    answer_of(press(head, values, levels, room))
+    press(head, values, levels, room).into()
 }

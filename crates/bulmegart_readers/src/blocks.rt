@@ -4,7 +4,7 @@ ghost use Rattle.bulmegart_blocks.specs.Blocks.{block_left, list_left, read_bloc
 
 use bins::tags::CONTEXTS;
 use bulmegart::records::{BlockParams, EngineState, block_handed, params_flags};
-use bulmegart_blocks::blocks::{BlockAnswer, ListAnswer, block_answer, list_answer};
+use bulmegart_blocks::blocks::{BlockAnswer, ListAnswer, block_answer};
 use hevc_reader::entries::{read_bins, residual_coding};
 
 // One block from a payload.
@@ -46,8 +46,8 @@ pub extern "C" fn bulmegart_read_bins(
 {
     let n = params_flags(params);
     if n != 0 {
-        return list_answer(Err(n));
+        return ListAnswer::from(Err(n));
     }
     let r = read_bins(list, statistics, params.into(), levels);
-    list_answer(r)
+    ListAnswer::from(r)
 }

@@ -1,11 +1,11 @@
 // The cross-component scale. After a refusal an answer's scale is 0.
 ghost use Rattle.std.specs.Prelude.{◌≡◌};
-ghost use Rattle.hevc_scale.specs.EntriesAgree.{read_says};
-ghost use Rattle.bulmegart_scales.specs.Scales.{scale_given, scale_left, read_scale};
+ghost use Rattle.hevc_scale.specs.EntriesAgree.{read_says, bins_read};
+ghost use Rattle.bulmegart_scales.specs.Scales.{scale_given, scale_list_given, scale_left, read_scale};
 
 use bins::tags::CONTEXTS;
 use bulmegart::records::{EngineState, state_handed};
-use hevc_scale::entries::{FoundScale, Read, read_scale};
+use hevc_scale::entries::{FoundScale, Read, ReadList, read_scale};
 
 #[repr(C)]
 #[derive(Clone, Copy)]
@@ -36,6 +36,17 @@ fn scale_answer(r: Read, s: EngineState) -> ScaleAnswer
             scale: 0,
             state: s,
         },
+    }
+}
+
+impl From<ReadList> for ScaleListAnswer {
+    ghost from_gives = { λ r a. a ≡ scale_list_given (bins_read r) };
+
+    fn from(r: ReadList) -> ScaleListAnswer {
+        match r {
+            Ok(scale) => ScaleListAnswer { number: 0, scale },
+            Err(number) => ScaleListAnswer { number, scale: 0 },
+        }
     }
 }
 

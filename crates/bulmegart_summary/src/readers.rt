@@ -5,7 +5,7 @@ ghost use Rattle.bulmegart_summary.specs.Readers.{block_left, list_left, read_bl
 
 use bins::tags::CONTEXTS;
 use bulmegart::records::{BlockParams, EngineState, block_handed, params_flags};
-use bulmegart_blocks::blocks::{BlockAnswer, ListAnswer, block_answer, list_answer};
+use bulmegart_blocks::blocks::{BlockAnswer, ListAnswer, block_answer};
 use hevc_kept_reader::reading::{read_kept, read_kept_bins};
 use hevc_summary::kept::{Form, Whole};
 
@@ -82,7 +82,7 @@ pub extern "C" fn bulmegart_read_kept_bins(
 {
     let n = params_flags(params);
     if n != 0 {
-        let no = list_answer(Err(n));
+        let no = ListAnswer::from(Err(n));
         return KeptListAnswer { list: no, whole };
     }
     let r = read_kept_bins(
@@ -97,7 +97,7 @@ pub extern "C" fn bulmegart_read_kept_bins(
     );
     let read = r.read;
     let behind = r.whole;
-    let answer = list_answer(read);
+    let answer = ListAnswer::from(read);
     KeptListAnswer {
         list: answer,
         whole: behind,

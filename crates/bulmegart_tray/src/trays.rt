@@ -15,14 +15,15 @@ pub struct TrayAnswer {
     pub state: EngineState,
 }
 
-fn tray_answer(t: Tray) -> TrayAnswer
-    ensures { result ≡ tray_answered t.number t.done t.state }
-{
-    let e = t.state;
-    TrayAnswer {
-        number: t.number,
-        done: t.done,
-        state: e.into(),
+impl From<Tray> for TrayAnswer {
+    ghost from_gives = { λ t a. a ≡ tray_answered t.number t.done t.state };
+
+    fn from(t: Tray) -> TrayAnswer {
+        TrayAnswer {
+            number: t.number,
+            done: t.done,
+            state: t.state.into(),
+        }
     }
 }
 
@@ -54,7 +55,7 @@ pub extern "C" fn bulmegart_read_tray(
             state,
         };
     }
-    let t = read_tray(
+    read_tray(
         payload,
         state.into(),
         contexts,
@@ -62,6 +63,6 @@ pub extern "C" fn bulmegart_read_tray(
         records,
         levels,
         found,
-    );
-    tray_answer(t)
+    )
+    .into()
 }

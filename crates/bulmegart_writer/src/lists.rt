@@ -3,7 +3,7 @@ ghost use Rattle.std.specs.Prelude.{◌≡◌};
 ghost use Rattle.bulmegart_blocks.specs.Lists.{write_left, write_block};
 
 use bulmegart::records::{BlockParams, is_set};
-use bulmegart_blocks::lists::{WriteAnswer, choice_of, write_answer, write_handed};
+use bulmegart_blocks::lists::{WriteAnswer, choice_of, write_handed};
 use hevc_writer::entries::write_bins;
 
 // One block as a bin list in the room.
@@ -20,7 +20,7 @@ pub extern "C" fn bulmegart_write_bins(
 {
     let n = write_handed(params, skip, rdpcm);
     if n != 0 {
-        return write_answer(Err(n));
+        return WriteAnswer::from(Err(n));
     }
     let r = write_bins(
         params.into(),
@@ -30,5 +30,5 @@ pub extern "C" fn bulmegart_write_bins(
         choice_of(rdpcm),
         room,
     );
-    write_answer(r)
+    WriteAnswer::from(r)
 }

@@ -1,4 +1,4 @@
-// The two that code a block: the plain one is there to compare with.
+// The two that code a block: any block, or a plain camera's, which refuses what is not plain.
 use bins::state::Engine;
 use case_text::given::Lent;
 use hevc_plain_coding::entries::{read_bins_plain, residual_coding_plain};

@@ -5,6 +5,7 @@ ghost use Rattle.frame.specs.Verdict.{no_levels, started_verdict, started_levels
 
 use bins::state::Engine;
 use bins::tags::CONTEXTS;
+use cabac_checks::checks::passed;
 use cabac_engine::engine::start;
 use cabac_init::contexts::init_contexts;
 use frame::fields::params;
@@ -20,14 +21,11 @@ fn read_from(bytes: &[u8], e: Engine, block: &mut [i32; 1024]) -> Verdict
     let mut stats = [0u8; 4];
     let p = params(bytes);
     init_contexts(&mut contexts, &mut stats, &bytes[8..138], bytes[4]);
-    let r = residual_coding(&bytes[138..], e, &mut contexts, &mut stats, p, block);
-    match r {
-        Ok(b) => Ok(Judged {
-            greatest: b.found.greatest,
-            past: b.state.past,
-        }),
-        Err(n) => Err(n),
-    }
+    let b = residual_coding(&bytes[138..], e, &mut contexts, &mut stats, p, block)?;
+    Ok(Judged {
+        greatest: b.found.greatest,
+        past: b.state.past,
+    })
 }
 
 // 1, 4, 5, then the reader's own numbers. The levels of the block are left, whatever stood there; 0 throughout where it is refused.
@@ -36,15 +34,9 @@ pub fn read_frame(bytes: &[u8], block: &mut [i32; 1024]) -> Verdict
     ensures { (result ≡ verdict bytes.now) × (block.new ≡ levels_of bytes.now) }
 {
     *block = [0i32; 1024];
-    let n = checks(bytes);
-    if n != 0 {
-        return Err(n);
-    }
-    let s = start(&bytes[138..]);
-    match s {
-        Ok(e) => read_from(bytes, e, block),
-        Err(m) => Err(m),
-    }
+    passed(checks(bytes))?;
+    let e = start(&bytes[138..])?;
+    read_from(bytes, e, block)
 }
 
 // The verdict alone.

@@ -6,6 +6,7 @@ ghost use Rattle.hevc_packer.specs.Entries.{pack_bins};
 ghost use Rattle.hevc_packer.specs.Promise.{ReadsBack};
 
 use bins::tags::CONTEXTS;
+use cabac_checks::checks::passed;
 use hevc_packer::entries::pack_checks;
 use hevc_reader::entries::read_bins;
 use hevc_residual::params::Params;
@@ -22,10 +23,7 @@ pub fn pack_bins(
     ensures { (packing_says result room.new ≡ pack_bins contexts.now stats.now p list.now room.old) × ReadsBack contexts.now stats.now p list.now room.old result room.new }
 {
     let mut block = [0i32; 1024];
-    let a = pack_checks(contexts, stats, p, &block);
-    if a != 0 {
-        return Err(a);
-    }
+    passed(pack_checks(contexts, stats, p, &block))?;
     let mut st = *stats;
     let r = read_bins(list, &mut st, p, &mut block);
     let Ok(_) = r else {

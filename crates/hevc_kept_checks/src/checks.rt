@@ -26,7 +26,7 @@ fn other_form(f: Form, p: Params) -> u32
     0
 }
 
-// 4
+// 4. As a number: its callers answer ListInto or ReadInto, in which `?` cannot end, so a Result would be no plainer.
 pub fn block_refusal(f: Form, p: Params, levels: &[i32]) -> u32
     ensures { result ≡ block_refusal f p levels.now }
 {
@@ -41,7 +41,7 @@ pub fn block_refusal(f: Form, p: Params, levels: &[i32]) -> u32
     other_form(f, p)
 }
 
-// 1, 2, 4
+// 1, 2, 4, as a number for the same reason.
 pub fn read_refusal(f: Form, bytes: &[u8], p: Params, levels: &[i32]) -> u32
     ensures { result ≡ read_refusal f bytes.now p levels.now }
 {

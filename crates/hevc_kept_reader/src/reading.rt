@@ -14,7 +14,7 @@ use hevc_residual::params::Params;
 use hevc_summary::kept::{Form, Whole};
 use hevc_summary::reading::{ListInto, ReadInto};
 
-// A block from a payload.
+// A block from a payload. The summary is told of a refusal too, so the answer is no Result and the number is tested, not handed up by `?`.
 pub fn read_kept(
     bytes: &[u8],
     e: Engine,
@@ -44,7 +44,7 @@ pub fn read_kept(
     ReadInto { read, whole }
 }
 
-// A block from a bin list, which it must end.
+// A block from a bin list, which it must end. Its refusals are tested for the same reason.
 pub fn read_kept_bins(
     bytes: &[u8],
     stats: &mut [u8; 4],

@@ -6,12 +6,13 @@ ghost use Rattle.hevc_packer.specs.Entries.{places, pack_checks, pack_scale};
 ghost use Rattle.hevc_packer.specs.Promise.{ScaleBack};
 
 use bins::tags::CONTEXTS;
+use cabac_checks::checks::passed;
 use hevc_checks::checks::{above_refusal, parameter_refusal};
 use hevc_residual::params::Params;
 use hevc_scale::entries::{component_refusal, read_scale_bins};
 use packer::list::{Packing, pack_from};
 
-// 4, 3
+// 4, 3. The number is its public contract: two tests through a Result and back would be no plainer.
 pub fn pack_checks(contexts: &[u8], stats: &[u8], p: Params, block: &[i32]) -> u32
     requires { block.now ≡ places }
     ensures { result ≡ pack_checks contexts.now stats.now p }
@@ -36,14 +37,8 @@ pub fn pack_scale(
 ) -> Packing
     ensures { (packing_says result room.new ≡ pack_scale contexts.now component list.now room.old) × ScaleBack contexts.now component list.now room.old result room.new }
 {
-    let a = component_refusal(component);
-    if a != 0 {
-        return Err(a);
-    }
-    let b = above_refusal(contexts, 127);
-    if b != 0 {
-        return Err(b);
-    }
+    passed(component_refusal(component))?;
+    passed(above_refusal(contexts, 127))?;
     let r = read_scale_bins(list, component);
     let Ok(_) = r else {
         return Err(13);

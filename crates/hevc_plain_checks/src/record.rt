@@ -1,25 +1,27 @@
 // A plain record of parameters, from what is left to say of a block.
 ghost use Rattle.std.specs.Prelude.{◌≡◌};
+ghost use Rattle.cabac.specs.Numbers.{checked};
 ghost use Rattle.hevc_plain.specs.Plain.{limits_refusal, plain_record};
 ghost use Rattle.hevc_plain_checks.specs.Record.{made_says};
 
 use crate::checks::plain_refusal;
+use cabac_checks::checks::passed;
 use hevc_residual::params::Params;
 
 // 4, of size and scan
-fn limits_refusal(log2: u32, scan: u32) -> u32
-    ensures { result ≡ limits_refusal log2 scan }
+fn check_limits(log2: u32, scan: u32) -> Result<(), u32>
+    ensures { result ≡ checked (limits_refusal log2 scan) }
 {
     if log2 < 2 {
-        return 4;
+        return Err(4);
     }
     if 5 < log2 {
-        return 4;
+        return Err(4);
     }
     if 2 < scan {
-        return 4;
+        return Err(4);
     }
-    0
+    Ok(())
 }
 
 // 8 bits and no option of the range extensions, or the number of the refusal: 4 and 24 of size and scan, as the entry points give them.
@@ -34,10 +36,7 @@ pub fn plain_params(
 ) -> Result<Params, u32>
     ensures { made_says result ≡ plain_record log2 luma scan hiding skip_allowed lossless inter }
 {
-    let a = limits_refusal(log2, scan);
-    if a != 0 {
-        return Err(a);
-    }
+    check_limits(log2, scan)?;
     let p = Params {
         log2,
         luma,
@@ -55,9 +54,6 @@ pub fn plain_params(
         extended: false,
     };
     let statistics = [0u8; 4];
-    let b = plain_refusal(p, &statistics);
-    if b != 0 {
-        return Err(b);
-    }
+    passed(plain_refusal(p, &statistics))?;
     Ok(p)
 }

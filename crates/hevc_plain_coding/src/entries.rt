@@ -5,7 +5,7 @@ ghost use Rattle.hevc_plain.specs.Plain.{read_plain, read_plain_bins};
 
 use bins::state::Engine;
 use bins::tags::CONTEXTS;
-use cabac_checks::checks::payload_refusal;
+use cabac_checks::checks::{passed, payload_refusal};
 use hevc_plain_checks::checks::plain_checks;
 use hevc_reader::entries::{read_bins, residual_coding};
 use hevc_residual::answers::{Read, ReadList};
@@ -22,14 +22,8 @@ pub fn residual_coding_plain(
 ) -> Read
     ensures { payload_read result contexts.new stats.new block.new ≡ read_plain bytes.now e contexts.old stats.old p block.old }
 {
-    let a = payload_refusal(bytes);
-    if a != 0 {
-        return Err(a);
-    }
-    let b = plain_checks(stats, p, block);
-    if b != 0 {
-        return Err(b);
-    }
+    passed(payload_refusal(bytes))?;
+    passed(plain_checks(stats, p, block))?;
     residual_coding(bytes, e, contexts, stats, p, block)
 }
 
@@ -37,9 +31,6 @@ pub fn residual_coding_plain(
 pub fn read_bins_plain(bytes: &[u8], stats: &mut [u8; 4], p: Params, block: &mut [i32]) -> ReadList
     ensures { bins_read result stats.new block.new ≡ read_plain_bins bytes.now stats.old p block.old }
 {
-    let a = plain_checks(stats, p, block);
-    if a != 0 {
-        return Err(a);
-    }
+    passed(plain_checks(stats, p, block))?;
     read_bins(bytes, stats, p, block)
 }

@@ -5,6 +5,7 @@ ghost use Rattle.hevc_writer.specs.Demand3.{Exactly};
 ghost use Rattle.hevc_plain.specs.Plain.{write_plain};
 ghost use Rattle.hevc_plain_checks.specs.PlainCode.{plain_checks};
 
+use cabac_checks::checks::passed;
 use hevc_plain_checks::checks::plain_checks;
 use hevc_residual::answers::Written;
 use hevc_residual::params::{Params, Rdpcm};
@@ -21,9 +22,6 @@ pub fn write_bins_plain(
 ) -> Written
     ensures { (bins_written result stats.new room.new ≡ write_plain p stats.old block.now skip rdpcm room.old) × (0 ≡ plain_checks stats.old p block.now → Exactly p stats.old block.now skip rdpcm room.old result room.new) }
 {
-    let a = plain_checks(stats, p, block);
-    if a != 0 {
-        return Err(a);
-    }
+    passed(plain_checks(stats, p, block))?;
     write_bins(p, stats, block, skip, rdpcm, room)
 }

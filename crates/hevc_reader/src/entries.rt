@@ -9,10 +9,11 @@ ghost use Rattle.hevc_residual.specs.Answers.{payload_read, bins_read, payload_c
 use bins::places::SourcePlace;
 use bins::state::{Engine, Interval};
 use bins::tags::CONTEXTS;
+use cabac_checks::checks::passed;
 use cabac_state::engine::{open, settle};
 use hevc_block::block::Blocked;
 use hevc_checks::checks::bins_checks;
-use hevc_payload_checks::checks::payload_checks;
+use hevc_payload_checks::checks::check_payload;
 use hevc_read_into::into::read_into;
 use hevc_residual::answers::{Read, ReadBlock, ReadList};
 use hevc_residual::params::Params;
@@ -53,10 +54,7 @@ pub fn residual_coding(
 ) -> Read
     ensures { payload_read result contexts.new stats.new block.new ≡ read_payload bytes.now e contexts.old stats.old p block.old }
 {
-    let n = payload_checks(bytes, e, contexts, stats, p, block);
-    if n != 0 {
-        return Err(n);
-    }
+    check_payload(bytes, e, contexts, stats, p, block)?;
     let table = decision_table();
     read_checked(&table, bytes, e, contexts, stats, p, block)
 }
@@ -65,10 +63,7 @@ pub fn residual_coding(
 pub fn read_bins(bytes: &[u8], stats: &mut [u8; 4], p: Params, block: &mut [i32]) -> ReadList
     ensures { bins_read result stats.new block.new ≡ read_bins bytes.now stats.old p block.old }
 {
-    let n = bins_checks(stats, p, block);
-    if n != 0 {
-        return Err(n);
-    }
+    passed(bins_checks(stats, p, block))?;
     let mut contexts = [0u8; CONTEXTS];
     let mut st = *stats;
     let front = Interval {

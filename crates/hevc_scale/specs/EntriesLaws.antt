@@ -21,8 +21,8 @@ use Rattle.bins.specs.CodeLaws.{Packed}
 use Rattle.bins.specs.EngineRuns.{runs_goes}
 use Rattle.bins.specs.Settled.{seen, run_opened}
 use Rattle.bins.specs.Listed.{left, run_listed}
-use Rattle.cabac.specs.Numbers.{◌or_else◌, payload_refusal, state_refusal, ended_refusal}
-use Rattle.cabac.specs.NumberLaws.{or_else_first, or_else_rest, or_else_zero, payload_passed, state_fits, state_counts, state_runs}
+use Rattle.cabac.specs.Numbers.{◌or_else◌, checked, payload_refusal, state_refusal, ended_refusal}
+use Rattle.cabac.specs.NumberLaws.{checked_first, checked_rest, or_else_zero, payload_passed, state_fits, state_counts, state_runs}
 use Rattle.hevc_residual.specs.Numbers.{contexts_refusal}
 use Rattle.hevc_elements.specs.Agree.{Reads, from, reads_on}
 use Rattle.hevc_checks.specs.ChecksAgree.{above_refusal}
@@ -68,39 +68,37 @@ pub record Passed (l : List ℕ) (e : Engine) (contexts : List ℕ) (c : ℕ) : 
   pub component : c ≤ 1
 
 module _ (l : List ℕ) (e : Engine) (contexts : List ℕ) (c : ℕ) where
-  abbrev c₁ : ℕ
-  c₁ = payload_refusal l
-
-  abbrev c₂ : ℕ
-  c₂ = component_refusal c
+  -- what is looked at behind the payload, the component and the state
+  abbrev c₄ : ℕ
+  c₄ = contexts_refusal contexts or_else ended_refusal e
 
   abbrev c₃ : ℕ
-  c₃ = state_refusal l e
+  c₃ = state_refusal l e or_else c₄
 
-  abbrev c₄ : ℕ
-  c₄ = contexts_refusal contexts
-
-  abbrev c₅ : ℕ
-  c₅ = ended_refusal e
+  abbrev c₂ : ℕ
+  c₂ = component_refusal c or_else c₃
 
   -- the checks' ways out
-  pub checks_one : (n : ℕ) → n ≡ payload_refusal l → (n ≡ 0 → ⊥) → n ≡ payload_checks l e contexts c
-  checks_one n q h = or_else_first n c₁ (c₂ or_else c₃ or_else c₄ or_else c₅) q h
+  pub checks_one : (n : ℕ) → Err n ≡ checked (payload_refusal l) → Err n ≡ checked (payload_checks l e contexts c)
+  checks_one n q = checked_first n (payload_refusal l) c₂ q
 
   module _ (z₁ : 0 ≡ payload_refusal l) where
-    pub checks_two : (n : ℕ) → n ≡ component_refusal c → (n ≡ 0 → ⊥) → n ≡ payload_checks l e contexts c
-    checks_two n q h = or_else_rest n c₁ _ z₁ (or_else_first n c₂ (c₃ or_else c₄ or_else c₅) q h)
+    pub checks_two : (n : ℕ) → Err n ≡ checked (component_refusal c) → Err n ≡ checked (payload_checks l e contexts c)
+    checks_two n q = checked_first n (component_refusal c) c₃ q ∙ checked_rest (payload_refusal l) c₂ z₁
 
     module _ (z₂ : 0 ≡ component_refusal c) where
-      pub checks_three : (n : ℕ) → n ≡ state_refusal l e → (n ≡ 0 → ⊥) → n ≡ payload_checks l e contexts c
-      checks_three n q h = or_else_rest n c₁ _ z₁ (or_else_rest n c₂ _ z₂ (or_else_first n c₃ (c₄ or_else c₅) q h))
+      later : checked c₃ ≡ checked (payload_checks l e contexts c)
+      later = checked_rest (component_refusal c) c₃ z₂ ∙ checked_rest (payload_refusal l) c₂ z₁
+
+      pub checks_three : (n : ℕ) → Err n ≡ checked (state_refusal l e) → Err n ≡ checked (payload_checks l e contexts c)
+      checks_three n q = checked_first n (state_refusal l e) c₄ q ∙ later
 
       module _ (z₃ : 0 ≡ state_refusal l e) where
-        pub checks_four : (n : ℕ) → n ≡ above_refusal 127 contexts → (n ≡ 0 → ⊥) → n ≡ payload_checks l e contexts c
-        checks_four n q h = or_else_rest n c₁ _ z₁ (or_else_rest n c₂ _ z₂ (or_else_rest n c₃ _ z₃ (or_else_first n c₄ c₅ (q ∙ above_contexts contexts) h)))
+        pub checks_four : (n : ℕ) → Err n ≡ checked (above_refusal 127 contexts) → Err n ≡ checked (payload_checks l e contexts c)
+        checks_four n q = checked_first n (contexts_refusal contexts) (ended_refusal e) (q ∙ ap checked (above_contexts contexts)) ∙ checked_rest (state_refusal l e) c₄ z₃ ∙ later
 
-        pub checks_five : 0 ≡ above_refusal 127 contexts → (n : ℕ) → n ≡ ended_refusal e → n ≡ payload_checks l e contexts c
-        checks_five z₄ n q = or_else_rest n c₁ _ z₁ (or_else_rest n c₂ _ z₂ (or_else_rest n c₃ _ z₃ (or_else_rest n c₄ c₅ (z₄ ∙ above_contexts contexts) q)))
+        pub checks_five : 0 ≡ above_refusal 127 contexts → checked (ended_refusal e) ≡ checked (payload_checks l e contexts c)
+        checks_five z₄ = checked_rest (contexts_refusal contexts) (ended_refusal e) (z₄ ∙ above_contexts contexts) ∙ checked_rest (state_refusal l e) c₄ z₃ ∙ later
 
   pub payload_no_lem : (n : ℕ) → n ≡ payload_checks l e contexts c → (n ≡ 0 → ⊥) → payload_read (Err n) contexts ≡ read_payload l e contexts c
   unfolding read_payload
@@ -113,10 +111,10 @@ module _ (l : List ℕ) (e : Engine) (contexts : List ℕ) (c : ℕ) where
   module _ (q : 0 ≡ payload_checks l e contexts c) where
     pub checks_passed : Passed l e contexts c
     checks_passed =
-        let a = or_else_zero c₁ (c₂ or_else c₃ or_else c₄ or_else c₅) q in
-        let b = or_else_zero c₂ (c₃ or_else c₄ or_else c₅) a.1 in
-        let d = or_else_zero c₃ (c₄ or_else c₅) b.1 in
-        let f = or_else_zero c₄ c₅ d.1 in
+        let a = or_else_zero (payload_refusal l) c₂ q in
+        let b = or_else_zero (component_refusal c) c₃ a.1 in
+        let d = or_else_zero (state_refusal l e) c₄ b.1 in
+        let f = or_else_zero (contexts_refusal contexts) (ended_refusal e) d.1 in
         record {
           short = payload_passed l a.0;
           fits = state_fits l e d.0;

@@ -1,13 +1,14 @@
 // The entry points: a scale from a payload, and from a bin list.
 // Each takes anything: what is not accepted is answered by its number.
 ghost use Rattle.std.specs.Prelude.{◌≡◌};
+ghost use Rattle.cabac.specs.Numbers.{checked};
 ghost use Rattle.hevc_cross.specs.Entries.{component_refusal, read_payload, read_bins};
 ghost use Rattle.hevc_scale.specs.EntriesAgree.{payload_read, bins_read, payload_checks};
 
 use bins::places::SourcePlace;
 use bins::state::{Engine, Interval};
 use bins::tags::CONTEXTS;
-use cabac_checks::checks::{payload_refusal, state_refusal};
+use cabac_checks::checks::{passed, payload_refusal, state_refusal};
 use cabac_state::engine::{open, settle};
 use hevc_checks::checks::above_refusal;
 use hevc_scale_syntax::syntax;
@@ -38,39 +39,24 @@ pub fn component_refusal(component: u32) -> u32
 }
 
 // 1, 2, 4, 3, 6
-fn payload_checks(bytes: &[u8], e: Engine, contexts: &[u8], component: u32) -> u32
-    ensures { result ≡ payload_checks bytes.now e contexts.now component }
+fn check_payload(bytes: &[u8], e: Engine, contexts: &[u8], component: u32) -> Result<(), u32>
+    ensures { result ≡ checked (payload_checks bytes.now e contexts.now component) }
 {
-    let a = payload_refusal(bytes);
-    if a != 0 {
-        return a;
-    }
-    let b = component_refusal(component);
-    if b != 0 {
-        return b;
-    }
-    let c = state_refusal(bytes, e);
-    if c != 0 {
-        return c;
-    }
-    let d = above_refusal(contexts, 127);
-    if d != 0 {
-        return d;
-    }
+    passed(payload_refusal(bytes))?;
+    passed(component_refusal(component))?;
+    passed(state_refusal(bytes, e))?;
+    passed(above_refusal(contexts, 127))?;
     if e.ended {
-        return 6;
+        return Err(6);
     }
-    0
+    Ok(())
 }
 
 // The scale of a chroma component, from a payload. A refusal leaves the contexts as they were.
 pub fn read_scale(bytes: &[u8], e: Engine, contexts: &mut [u8; CONTEXTS], component: u32) -> Read
     ensures { payload_read result contexts.new ≡ read_payload bytes.now e contexts.old component }
 {
-    let n = payload_checks(bytes, e, contexts, component);
-    if n != 0 {
-        return Err(n);
-    }
+    check_payload(bytes, e, contexts, component)?;
     let table = decision_table();
     let mut cs = *contexts;
     let r = syntax::read_scale(false, &table, &mut cs, component as usize, bytes, open(e));
@@ -91,10 +77,7 @@ pub fn read_scale(bytes: &[u8], e: Engine, contexts: &mut [u8; CONTEXTS], compon
 pub fn read_scale_bins(bytes: &[u8], component: u32) -> ReadList
     ensures { bins_read result ≡ read_bins bytes.now component }
 {
-    let refused = component_refusal(component);
-    if refused != 0 {
-        return Err(refused);
-    }
+    passed(component_refusal(component))?;
     let table = decision_table();
     let mut contexts = [0u8; CONTEXTS];
     let front = Interval {

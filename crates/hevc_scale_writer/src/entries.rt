@@ -5,6 +5,7 @@ ghost use Rattle.hevc_scale.specs.EntriesAgree.{bins_written};
 ghost use Rattle.hevc_scale_writer.specs.Demand3.{Exactly};
 
 use crate::write::{put_scale, value};
+use cabac_checks::checks::passed;
 use hevc_residual::answers::Written;
 use hevc_scale::entries::component_refusal;
 use level_sizes::sizes::is_negative;
@@ -14,10 +15,7 @@ use pen::room::Pen;
 pub fn write_scale_bins(component: u32, scale: i32, room: &mut [u8]) -> Written
     ensures { (bins_written result room.new ≡ write_bins component scale room.old) × Exactly component scale room.old result room.new }
 {
-    let n = component_refusal(component);
-    if n != 0 {
-        return Err(n);
-    }
+    passed(component_refusal(component))?;
     let Some(v) = value(scale) else {
         return Err(4);
     };

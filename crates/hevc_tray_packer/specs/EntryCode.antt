@@ -2,13 +2,13 @@
 use Prim.Native.Nat.{ℕ, zero, suc, ◌+◌, ◌*◌, ◌≤◌, ◌<◌}
 use Rattle.std.specs.Prelude.{◌≡◌, refl, Bool, true, false, get_or, drop, Result, Err}
 use Rattle.std.proofs.Math.Path.{sym, ap}
-use Rattle.std.proofs.Common.{ap₂, subst, ◌∙◌, arith, add-one, drop_of_length-le, drop-cons, lt-ltb, le-ltb}
+use Rattle.std.proofs.Common.{◌∙◌, arith, add-one, drop_of_length-le, drop-cons, lt-ltb, le-ltb}
 use Rattle.std.proofs.Math.Bool.{cond}
-use mathlib.Core.List.{List, [], ◌∷◌}
+use mathlib.Core.List.{List, []}
 use Rattle.std.proofs.Math.ListN.{length}
 use Rattle.bins.specs.Syn.{Out, run, by_list}
 use Rattle.bins.specs.CodeLaws.{Packed}
-use Rattle.cabac.specs.Numbers.{refused, ◌or_else◌}
+use Rattle.cabac.specs.Numbers.{◌or_else◌}
 use Rattle.cabac.specs.NumberLaws.{or_else_first, or_else_rest, or_else_zero}
 use Rattle.hevc_residual.specs.declared.params.Params.{Params}
 use Rattle.hevc_residual.specs.Residual.{Block}
@@ -19,7 +19,7 @@ use Rattle.hevc_checks.specs.ChecksAgree.{above_refusal}
 use Rattle.hevc_checks.specs.ChecksLaws.{above_contexts, above_statistics, contexts_packed}
 use Rattle.hevc_tray.specs.Rows.{params_of, records_of, rows_refusal}
 use Rattle.packing.specs.Packs.{entries_most}
-use Rattle.packing.specs.Entries.{BinsPacked, not_packed, pack_into, pack_list, pack_tree}
+use Rattle.packing.specs.Entries.{pack_into, pack_list}
 use Rattle.packing.proofs.EntriesLaws.{tree_checked, tree_read, list_whole}
 use Rattle.packer.specs.IntoCode.{packing_says}
 use Rattle.hevc_packer.specs.Entries.{places}
@@ -30,7 +30,7 @@ use Rattle.hevc_tray_packer.specs.Rows.{Lists, lists, TrayPacked, row_checks, do
 use Rattle.hevc_tray_packer.specs.ListCode.{lists_seen}
 use Rattle.hevc_tray_packer.specs.ListLaws.{lists_read, lists_refused}
 use Rattle.hevc_tray_packer.specs.TrayAgain.{records_long}
-use Rattle.hevc_tray_packer.specs.Promise.{tray_says, tree_is}
+use Rattle.hevc_tray_packer.specs.Promise.{tree_is}
 
 -- ---- limits, record after record
 parameter_four : (p : Params) → (parameter_refusal p places ≡ 0 → ⊥) → 4 ≡ parameter_refusal p places

@@ -1,5 +1,5 @@
 -- Worked cases of a tray packed, by computation. So the theorem speaks of something.
-use Rattle.std.specs.Prelude.{ℕ, ◌≡◌, refl, true, false, List, [], ◌∷◌, ◌++◌, replicate}
+use Rattle.std.specs.Prelude.{ℕ, ◌≡◌, refl, List, [], ◌∷◌, ◌++◌, replicate}
 use Rattle.std.specs.Int.Count.{count_leading_zeros}
 use Rattle.tables.specs.Tables.{range_tab_lps, trans_idx_mps, trans_idx_lps, lps_of, on_mps, on_lps}
 use Rattle.bins.specs.Tags.{context_count, is_entry}

@@ -1,7 +1,7 @@
 -- The lists as the code goes through them. Assumes nothing.
 use Rattle.std.specs.Prelude.{ℕ, zero, suc, ◌+◌, ◌≤◌, ◌<◌, ◌≡◌, Bool, true, false, ℤ, pos, length, get_or, drop, take, replicate, eqb, Option, Some, None, Result, Ok, Err}
 use Rattle.std.proofs.Math.Path.{refl, sym, ap}
-use Rattle.std.proofs.Common.{ap₂, subst, ◌∙◌, arith, add-one, drop_of_length-le, drop-cons, eqb-true}
+use Rattle.std.proofs.Common.{subst, ◌∙◌, arith, add-one, drop_of_length-le, drop-cons, eqb-true}
 use Rattle.std.proofs.lemmas.Bool.{eqb-false}
 use mathlib.Core.List.{List, [], ◌∷◌}
 use Rattle.std.proofs.lemmas.List.{length-replicate}

@@ -10,7 +10,7 @@ use Rattle.hevc_tray.specs.Rows.{records_of, rows_refusal}
 use Rattle.packing.specs.Entries.{BinsPacked, not_packed, pack_tree}
 use Rattle.packing.proofs.EntriesLaws.{accepts_is, refuses_is}
 use Rattle.packer.specs.IntoCode.{packing_says}
-use Rattle.hevc_packer.specs.Tray.{blocks_s, count_refusal, records_refusal, tray_checks, pack_tray}
+use Rattle.hevc_packer.specs.Tray.{blocks_s, count_refusal, tray_checks, pack_tray}
 use Rattle.hevc_packer.specs.TrayLaws.{count_few, tray_is_read, TrayAgain}
 use Rattle.hevc_tray_packer.specs.declared.entries.TrayPacking.{TrayPacking}
 use Rattle.hevc_tray_packer.specs.Rows.{TrayPacked, row_checks, packed_by, pack_rows}

@@ -1,12 +1,12 @@
 -- A tray packed is read back by (iv)'s reader in one call: started on the payload with the same contexts and statistics, it does every block, and gives what the
 -- lists hold, block for block; then terminate is 1. Assumes nothing.
-use Rattle.std.specs.Prelude.{ℕ, zero, suc, ◌+◌, ◌≤◌, ◌≡◌, Bool, true, false, cond, length, take, drop, ltb, ℤ}
+use Rattle.std.specs.Prelude.{ℕ, zero, suc, ◌≤◌, ◌≡◌, length, take, drop, ℤ}
 use Rattle.std.proofs.Math.Path.{refl, ap, ap₂}
-use Rattle.std.proofs.Common.{sym, subst, ◌∙◌, arith, length-take, drop_of_length-le, length-take-le}
+use Rattle.std.proofs.Common.{sym, subst, ◌∙◌, arith, drop_of_length-le, length-take-le}
 use mathlib.Core.List.{List, [], ◌∷◌, ◌++◌, append_assoc, append-nil}
 use Rattle.bins.specs.declared.state.Engine.{Engine}
 use Rattle.bins.specs.Engine.{started}
-use Rattle.cabac.specs.Numbers.{Answer, accepted, refused, ◌or_else◌}
+use Rattle.cabac.specs.Numbers.{accepted, refused}
 use Rattle.cabac.specs.NumberLaws.{or_else_zero, or_else_rest}
 use Rattle.cabac.specs.Entries.{start}
 use Rattle.hevc_residual.specs.declared.params.Params.{Params}

@@ -1,6 +1,7 @@
 // The entry point: the lists of a tray's blocks as one payload in a lent room, contexts and statistics carried on, one flush.
 // It takes anything: what is not accepted is answered by its number. Contexts and statistics are read only.
 ghost use Rattle.std.specs.Prelude.{◌≡◌};
+ghost use Rattle.cabac.specs.Numbers.{checked};
 ghost use Rattle.hevc_tray.specs.Rows.{records_of, rows_refusal};
 ghost use Rattle.hevc_packer.specs.Tray.{records_refusal};
 ghost use Rattle.hevc_tray_packer.specs.Rows.{row_checks, pack_rows};
@@ -8,6 +9,7 @@ ghost use Rattle.hevc_tray_packer.specs.Promise.{tray_says, TrayBack};
 
 use crate::lists::read_lists;
 use bins::tags::CONTEXTS;
+use cabac_checks::checks::passed;
 use hevc_checks::checks::{above_refusal, parameter_refusal};
 use hevc_tray_reader::rows::{params_of, rows_refusal};
 use packer::list::{Packing, pack_from};
@@ -20,38 +22,27 @@ pub struct TrayPacking {
 }
 
 // 4: a record out of its limits
-fn records_refusal(records: &[[u8; 14]]) -> u32
-    ensures { result ≡ records_refusal (records_of records.now) }
+fn check_records(records: &[[u8; 14]]) -> Result<(), u32>
+    ensures { result ≡ checked (records_refusal (records_of records.now)) }
 {
     let block = [0i32; 1024];
     for record in records {
-        if parameter_refusal(params_of(*record), &block) != 0 {
-            return 4;
-        }
+        passed(parameter_refusal(params_of(*record), &block))?;
     }
-    0
+    Ok(())
 }
 
 // 4, 3
-fn tray_checks(contexts: &[u8], stats: &[u8], records: &[[u8; 14]]) -> u32
-    ensures { result ≡ row_checks contexts.now stats.now records.now }
+fn check_tray(contexts: &[u8], stats: &[u8], records: &[[u8; 14]]) -> Result<(), u32>
+    ensures { result ≡ checked (row_checks contexts.now stats.now records.now) }
 {
-    let a = rows_refusal(records);
-    if a != 0 {
-        return a;
-    }
+    passed(rows_refusal(records))?;
     if 256 < records.len() {
-        return 4;
+        return Err(4);
     }
-    let b = records_refusal(records);
-    if b != 0 {
-        return b;
-    }
-    let c = above_refusal(contexts, 127);
-    if c != 0 {
-        return c;
-    }
-    above_refusal(stats, 84)
+    check_records(records)?;
+    passed(above_refusal(contexts, 127))?;
+    passed(above_refusal(stats, 84))
 }
 
 // A tray's lists. The bin reader takes them or not; then they are packed as one list, by their own entries.
@@ -64,8 +55,7 @@ pub fn pack_tray(
 ) -> TrayPacking
     ensures { (tray_says result room.new ≡ pack_rows contexts.now stats.now records.now list.now room.old) × TrayBack contexts.now stats.now records.now list.now room.old result.packing room.new }
 {
-    let n = tray_checks(contexts, stats, records);
-    if n != 0 {
+    if let Err(n) = check_tray(contexts, stats, records) {
         return TrayPacking {
             done: 0,
             packing: Err(n),

@@ -1,6 +1,7 @@
 // The entry point: records of parameters, one payload, one long buffer of levels cut into consecutive n·n parts.
 // It takes anything: what document 01 does not accept is answered by its number.
 ghost use Rattle.std.specs.Prelude.{◌≡◌, length};
+ghost use Rattle.cabac.specs.Numbers.{checked};
 ghost use Rattle.hevc_tray.specs.Rows.{rows_refusal, records_of};
 ghost use Rattle.hevc_tray.specs.Tray.{records_refusal, tray_checks, read_rows};
 ghost use Rattle.hevc_tray.specs.Seen.{read_no, tray_seen};
@@ -8,7 +9,7 @@ ghost use Rattle.hevc_tray.specs.Seen.{read_no, tray_seen};
 use crate::rows::{params_of, row_of, rows_refusal};
 use bins::state::Engine;
 use bins::tags::CONTEXTS;
-use cabac_checks::checks::{payload_refusal, state_refusal};
+use cabac_checks::checks::{passed, payload_refusal, state_refusal};
 use hevc_checks::checks::{above_refusal, parameter_refusal};
 use hevc_reader::entries::read_checked;
 use hevc_residual::answers::Read;
@@ -26,22 +27,20 @@ fn read_refusal(r: Read) -> u32
 }
 
 // 4: a record out of its limits, or one for whose part too few places are left
-fn records_refusal(records: &[[u8; 14]], levels: &[i32]) -> u32
-    ensures { result ≡ records_refusal (records_of records.now) levels.now }
+fn check_records(records: &[[u8; 14]], levels: &[i32]) -> Result<(), u32>
+    ensures { result ≡ checked (records_refusal (records_of records.now) levels.now) }
 {
     let mut at: usize = 0;
     for record in records {
         let p = params_of(*record);
-        if parameter_refusal(p, &levels[at..]) != 0 {
-            return 4;
-        }
+        passed(parameter_refusal(p, &levels[at..]))?;
         at += area_of(p.log2);
     }
-    0
+    Ok(())
 }
 
 // 1, 2, 4, 3, 6
-fn tray_checks(
+fn check_tray(
     bytes: &[u8],
     e: Engine,
     contexts: &[u8],
@@ -49,43 +48,25 @@ fn tray_checks(
     records: &[[u8; 14]],
     levels: &[i32],
     rooms: usize,
-) -> u32
-    ensures { result ≡ tray_checks bytes.now e contexts.now stats.now (rows_refusal records.now) (records_of records.now) levels.now rooms }
+) -> Result<(), u32>
+    ensures { result ≡ checked (tray_checks bytes.now e contexts.now stats.now (rows_refusal records.now) (records_of records.now) levels.now rooms) }
 {
-    let a = payload_refusal(bytes);
-    if a != 0 {
-        return a;
-    }
+    passed(payload_refusal(bytes))?;
     if 256 < records.len() {
-        return 4;
+        return Err(4);
     }
-    let b = rows_refusal(records);
-    if b != 0 {
-        return b;
-    }
-    let c = records_refusal(records, levels);
-    if c != 0 {
-        return c;
-    }
+    passed(rows_refusal(records))?;
+    check_records(records, levels)?;
     if rooms < records.len() {
-        return 4;
+        return Err(4);
     }
-    let d = state_refusal(bytes, e);
-    if d != 0 {
-        return d;
-    }
-    let f = above_refusal(contexts, 127);
-    if f != 0 {
-        return f;
-    }
-    let g = above_refusal(stats, 84);
-    if g != 0 {
-        return g;
-    }
+    passed(state_refusal(bytes, e))?;
+    passed(above_refusal(contexts, 127))?;
+    passed(above_refusal(stats, 84))?;
     if e.ended {
-        return 6;
+        return Err(6);
     }
-    0
+    Ok(())
 }
 
 // Behind the checks: block after block, by one table.
@@ -153,11 +134,10 @@ pub fn read_tray(
             state: e,
         };
     }
-    let n = tray_checks(bytes, e, contexts, stats, records, levels, found.len());
-    if n != 0 {
+    if let Err(number) = check_tray(bytes, e, contexts, stats, records, levels, found.len()) {
         return Tray {
             done: 0,
-            number: n,
+            number,
             state: e,
         };
     }

@@ -11,6 +11,7 @@ ghost use Rattle.hevc_residual.specs.Answers.{bins_written};
 ghost use Rattle.hevc_writer.specs.EntriesPuts.{Goes};
 ghost use Rattle.hevc_writer.specs.Demand3.{Exactly};
 
+use cabac_checks::checks::passed;
 use hevc_block_pen::subs::put_sub_blocks;
 use hevc_checks::checks::bins_checks;
 use hevc_head_rules::head::Head;
@@ -88,15 +89,9 @@ pub fn write_bins(
 ) -> Written
     ensures { (bins_written result stats.new room.new ≡ write_bins p stats.old block.now skip rdpcm room.old) × Exactly p stats.old block.now skip rdpcm room.old result room.new }
 {
-    let a = bins_checks(stats, p, block);
-    if a != 0 {
-        return Err(a);
-    }
+    passed(bins_checks(stats, p, block))?;
     let levels = &block[..area_of(p.log2)];
-    let b = write_refusal(p, levels, skip, rdpcm);
-    if b != 0 {
-        return Err(b);
-    }
+    passed(write_refusal(p, levels, skip, rdpcm))?;
     if !has_room(room, levels, stats, p, skip, rdpcm) {
         return Err(12);
     }

@@ -4,6 +4,7 @@ ghost use Rattle.press_frame.specs.Pressed.{framed, packed_for, pressed};
 ghost use Rattle.press_frame.specs.Said.{pressed_says, Leaves};
 
 use bins::tags::CONTEXTS;
+use cabac_checks::checks::passed;
 use cabac_init::contexts::init_contexts;
 use frame::fields::params;
 use hevc_block_packer::entries::pack_bins;
@@ -20,33 +21,24 @@ fn pack_drawing(head: &[u8], values: &[u8], list: &[u8], room: &mut [u8]) -> Pre
     let mut stats = [0u8; 4];
     init_contexts(&mut contexts, &mut stats, values, head[4]);
     let mut payload = [0u8; 4096];
-    let r = pack_bins(&contexts, &stats, params(head), list, &mut payload);
-    match r {
-        Ok(n) => Ok(put_frame(head, values, &payload[..n], room)),
-        Err(m) => Err(line_number(m)),
-    }
+    let n = pack_bins(&contexts, &stats, params(head), list, &mut payload).map_err(line_number)?;
+    Ok(put_frame(head, values, &payload[..n], room))
 }
 
 // A drawing: the six bytes of a frame's header, 130 initial values, and n·n levels. The frame stands at the front of the room.
 pub fn press(head: &[u8], values: &[u8], levels: &[i32], room: &mut [u8]) -> Pressed
     ensures { (pressed_says result room.new ≡ pressed (length room.old) head.now values.now levels.now) × Leaves result room.old room.new }
 {
-    let a = handed_refusal(room.len(), head, values);
-    if a != 0 {
-        return Err(a);
-    }
+    passed(handed_refusal(room.len(), head, values))?;
     let mut stats = [0u8; 4];
     let mut list = [0u8; 71088];
-    let w = write_bins(
+    let n = write_bins(
         params(head),
         &mut stats,
         levels,
         false,
         Rdpcm::None,
         &mut list,
-    );
-    match w {
-        Ok(n) => pack_drawing(head, values, &list[..n], room),
-        Err(m) => Err(m),
-    }
+    )?;
+    pack_drawing(head, values, &list[..n], room)
 }

@@ -45,7 +45,7 @@ impl fmt::Display for Why {
     }
 }
 
-// BadInput input: from a place of the line on, and why.
+// Bad input: from a place of the line on, and why.
 #[derive(Clone, Copy)]
 pub struct BadInput {
     pub at: usize,

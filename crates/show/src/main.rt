@@ -165,10 +165,10 @@ fn payload_of(text: &[u8], front: usize, high: u8, low: u8) -> Result<(usize, us
 {
     let length = 256 * usize::from(high) + usize::from(low);
     if MOST < length {
-        return Err(b"the payload length is over 4096");
+        return Err(b"bad input: the payload length is over 4096");
     }
     let end = front + 2 * length;
-    enough(text, end, b"it ends before the payload does")?;
+    enough(text, end, b"bad input: it ends before the payload does")?;
     Ok((length, end))
 }
 
@@ -182,30 +182,25 @@ fn hevc_parts(
     enough(
         text,
         HEADER_DIGITS,
-        b"it ends within the first 8 bytes of a frame",
+        b"bad input: it ends within the first 8 bytes of a frame",
     )?;
     spelled(
         part(text, 0, HEADER_DIGITS),
         header,
-        b"the first 8 bytes are not lower-case hexadecimal",
+        b"bad input: the first 8 bytes are not lower-case hexadecimal",
     )?;
     let (length, end) = payload_of(text, FRONT_DIGITS, header[6], header[7])?;
     spelled(
         part(text, HEADER_DIGITS, FRONT_DIGITS),
         values,
-        b"the initial values are not lower-case hexadecimal",
+        b"bad input: the initial values are not lower-case hexadecimal",
     )?;
     spelled(
         part(text, FRONT_DIGITS, end),
         bytes,
-        b"the payload is not lower-case hexadecimal",
+        b"bad input: the payload is not lower-case hexadecimal",
     )?;
     Ok(length)
-}
-
-fn bad_input(out: &impl Print, words: &[u8]) -> io::Result<()> {
-    write::text(out, b"bad input: ")?;
-    write::line(out, words)
 }
 
 // The frame of HEVC that stands at the front of the text.
@@ -215,7 +210,7 @@ fn hevc_frame(out: &impl Print, text: &[u8]) -> io::Result<()> {
     let mut bytes = [0u8; MOST];
     match hevc_parts(text, &mut header, &mut values, &mut bytes) {
         Ok(length) => read(out, &header, &values, part(&bytes, 0, length)),
-        Err(words) => bad_input(out, words),
+        Err(words) => write::line(out, words),
     }
 }
 
@@ -232,18 +227,18 @@ fn old_parts(text: &[u8], bytes: &mut [u8; OLD_FRONT + MOST]) -> Result<usize, &
     enough(
         text,
         OLD_FRONT_DIGITS,
-        b"it ends within QP, payload length and pairs",
+        b"bad input: it ends within QP, payload length and pairs",
     )?;
     spelled(
         part(text, 0, 6),
         &mut front,
-        b"QP and payload length are not lower-case hexadecimal",
+        b"bad input: QP and payload length are not lower-case hexadecimal",
     )?;
     let (length, end) = payload_of(text, OLD_FRONT_DIGITS, front[1], front[2])?;
     spelled(
         part(text, 0, end),
         bytes,
-        b"the pairs or the payload are not lower-case hexadecimal",
+        b"bad input: the pairs or the payload are not lower-case hexadecimal",
     )?;
     Ok(length)
 }
@@ -253,7 +248,7 @@ fn old_frame(out: &impl Print, text: &[u8]) -> io::Result<()> {
     let mut bytes = [0u8; OLD_FRONT + MOST];
     match old_parts(text, &mut bytes) {
         Ok(length) => h264::frame(out, part(&bytes, 0, OLD_FRONT + length), length),
-        Err(words) => bad_input(out, words),
+        Err(words) => write::line(out, words),
     }
 }
 

@@ -2,7 +2,7 @@ use Rattle.bulmegart_plain.specs.Laws.{list_no_lem, list_yes}
 use Rattle.bulmegart_plain_lists.proofs.plain.bulmegart_read_bins_plain.Goals as goal
 
 pub returns-then-n-ne0 : goal.returns-then-n-ne0
-returns-then-n-ne0 c = let a = c.args in list_no_lem a.list.now a.statistics.now a.params a.levels.now _ _ c.params_flags-n.ensures c.if-n-ne0.true c.list_answer.ensures
+returns-then-n-ne0 c = let a = c.args in list_no_lem a.list.now a.statistics.now a.params a.levels.now _ _ c.params_flags-n.ensures c.if-n-ne0.true c.from.ensures
 
 pub returns : goal.returns
-returns c = let a = c.args in list_yes a.list.now a.statistics.now a.params a.levels.now _ _ c.read_bins_plain-r.result _ _ _ c.params_flags-n.ensures c.if-n-ne0.false c.into.ensures c.read_bins_plain-r.ensures c.list_answer-2.ensures
+returns c = let a = c.args in list_yes a.list.now a.statistics.now a.params a.levels.now _ _ c.read_bins_plain-r.result _ _ _ c.params_flags-n.ensures c.if-n-ne0.false c.into.ensures c.read_bins_plain-r.ensures c.from-2.ensures

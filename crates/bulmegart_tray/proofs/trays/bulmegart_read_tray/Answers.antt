@@ -17,7 +17,7 @@ pub returns : goal.returns
 returns c =
     let a = c.args in
     tray_yes a.payload.now a.state a.contexts.now a.statistics.now a.levels.now a.found.now
-    c.read_tray-t.result _ _ _ _ _ _ a.records.now _
+    c.read_tray.result _ _ _ _ _ _ a.records.now _
     c.if-records-eq0.false
     c.state_handed-n.ensures c.if-n-ne0.false
-    c.into.ensures c.read_tray-t.ensures c.tray_answer.ensures
+    c.into.ensures c.read_tray.ensures c.into-2.ensures

@@ -1,6 +1,4 @@
 use Rattle.hevc_tray_packer.specs.ListCode.{Going}
-use lib.ListN.{length}
-use Prim.Native.Nat.{◌-◌}
 use Rattle.hevc_tray_packer.proofs.lists.read_lists.Given as goal
 
 abbrev pub invariant-loop-i : goal.invariant-loop-i

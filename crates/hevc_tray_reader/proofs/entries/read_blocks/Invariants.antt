@@ -1,5 +1,3 @@
-use Prim.Native.Nat.{◌-◌}
-use lib.ListN.{length}
 use Rattle.hevc_tray.proofs.TrayCode.{Walking}
 use Rattle.hevc_tray_reader.proofs.entries.read_blocks.Given as goal
 

@@ -1,6 +1,5 @@
-use Prim.Native.Nat.{◌-◌, ◌≤◌}
 use mathlib.Core.Path.{◌≡◌}
-use lib.ListN.{length, drop}
+use lib.ListN.{drop}
 use Rattle.hevc_tray.specs.Rows.{rows_refusal}
 use Rattle.hevc_tray_reader.proofs.rows.rows_refusal.Given as goal
 

@@ -1,9 +1,0 @@
-use Rattle.hevc_packer.specs.Tray.{records_refusal}
-use Rattle.hevc_tray.specs.Rows.{records_of}
-use lib.ListN.{length, drop}
-use mathlib.Core.Path.{◌≡◌}
-use Prim.Native.Nat.{◌-◌, ◌≤◌}
-use Rattle.hevc_tray_packer.proofs.entries.records_refusal.Given as goal
-
-abbrev pub invariant-loop-record : goal.invariant-loop-record
-invariant-loop-record l = (records_refusal (records_of (drop l.record-index l.records)) ≡ records_refusal (records_of l.records))
