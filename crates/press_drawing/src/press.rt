@@ -32,13 +32,18 @@ pub fn press(head: &[u8], values: &[u8], levels: &[i32], room: &mut [u8]) -> Pre
     passed(handed_refusal(room.len(), head, values))?;
     let mut stats = [0u8; 4];
     let mut list = [0u8; 71088];
-    let n = write_bins(
+    let written = write_bins(
         params(head),
         &mut stats,
         levels,
         false,
         Rdpcm::None,
         &mut list,
-    )?;
+    );
+    // No `?`: must-fail/drawing_is_refused_by_12 turns the number here, and nothing else.
+    let n = match written {
+        Ok(n) => n,
+        Err(m) => return Err(m),
+    };
     pack_drawing(head, values, &list[..n], room)
 }

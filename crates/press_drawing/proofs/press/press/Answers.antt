@@ -24,13 +24,13 @@ pub slice_bounds-list-end : goal.slice_bounds-list-end
 slice_bounds-list-end c =
     let a = c.args in
     list_fits (length a.room.now) _ a.head.now a.values.now a.levels.now (checked_ok _ c.in_ok-passed.ensures ∙ c.handed_refusal.ensures) refl _
-    c.params.ensures _ _ _ c.write_bins.ensures.0 _ c.in_ok-n.was
+    c.params.ensures _ _ _ c.write_bins-written.ensures.0 _ c.in-Ok.is
 
 pub slice_bounds-pack_drawing-end : goal.slice_bounds-pack_drawing-end
 slice_bounds-pack_drawing-end c =
     let a = c.args in
     list_count (length a.room.now) _ a.head.now a.values.now a.levels.now (checked_ok _ c.in_ok-passed.ensures ∙ c.handed_refusal.ensures) refl _
-    c.params.ensures _ _ _ c.write_bins.ensures.0 _ c.in_ok-n.was
+    c.params.ensures _ _ _ c.write_bins-written.ensures.0 _ c.in-Ok.is
 
 pub pack_drawing-requires : goal.pack_drawing-requires
 pack_drawing-requires c =
@@ -43,16 +43,14 @@ returns c =
     let a = c.args in
     let x = c.pack_drawing.ensures in (
       list_said (length a.room.now) _ a.head.now a.values.now a.levels.now (checked_ok _ c.in_ok-passed.ensures ∙ c.handed_refusal.ensures) refl _
-          c.params.ensures _ _ _ c.write_bins.ensures.0 _ _ c.in_ok-n.was x.0,
+          c.params.ensures _ _ _ c.write_bins-written.ensures.0 _ _ c.in-Ok.is x.0,
       x.1,
     )
 
-pub returns-in_err-n : goal.returns-in_err-n
-returns-in_err-n c =
-    let a = c.args in
-    let p = err_from_is_err_and c.from_residual-in_err-n.result c.from_residual-in_err-n.ensures.1 in
-    rw (p.1, p.2) (
+pub returns-in-Err : goal.returns-in-Err
+returns-in-Err c =
+    let a = c.args in (
       list_no_lem (length a.room.now) _ a.head.now a.values.now a.levels.now (checked_ok _ c.in_ok-passed.ensures ∙ c.handed_refusal.ensures) refl _
-          c.params.ensures _ _ _ c.write_bins.ensures.0 _ c.in_err-n.was,
+          c.params.ensures _ _ _ c.write_bins-written.ensures.0 _ c.in-Err.is,
       refl,
     )
